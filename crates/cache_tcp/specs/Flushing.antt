@@ -19,16 +19,16 @@ pub record PassesLine (spot : Spot) (held unsent held' unsent' : List ℕ) : Typ
   pub line : held ≡ flush_line ++ held'
   pub answered : unsent' ≡ unsent ++ codes "OK\r\n"
 
--- so it is, or nothing is done
+-- the line is passed so; or nothing is done
 abbrev pub PassesIf : Bool → Spot → List ℕ → List ℕ → List ℕ → List ℕ → Type 0
 PassesIf true spot held unsent held' unsent' = PassesLine spot held unsent held' unsent'
 PassesIf false spot held unsent held' unsent' = (held' ≡ held) × (unsent' ≡ unsent)
 
--- so it is once more bytes came, of which none is left out
+-- the line is passed so once more bytes came, of which none is left out
 abbrev pub TakesMore : Spot → List ℕ → List ℕ → List ℕ → List ℕ → Type 0
 TakesMore spot held unsent held' unsent' = (more : List ℕ) × PassesLine spot (held ++ more) unsent held' unsent'
 
--- so it is, or nothing is to be sent for it
+-- more bytes came, and the line is passed so; or nothing is to be sent for it
 abbrev pub TakesIf : Bool → Spot → List ℕ → List ℕ → List ℕ → List ℕ → Type 0
 TakesIf true spot held unsent held' unsent' = TakesMore spot held unsent held' unsent'
 TakesIf false spot held unsent held' unsent' = unsent' ≡ unsent

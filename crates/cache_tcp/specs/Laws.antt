@@ -41,7 +41,7 @@ abbrev pub NoneWants : List Answer → Type 0
 NoneWants [] = Unit {0}
 NoneWants (reply ∷ replies) = (reply ≢ out_of_memory) × NoneWants replies
 
--- nor any of the replies to these messages
+-- none of the replies to these messages says that memory ran out
 abbrev pub AllHadMemory : List (Done memcached_text) → Type 0
 AllHadMemory [] = Unit {0}
 AllHadMemory (done ∷ more) = NoneWants done.replies × AllHadMemory more

@@ -47,7 +47,7 @@ pub struct CacheEnd<W: Wire> {
     flushes: bool,
     // The clients for which something is to be done in the next turn, each once.
     ready: Vec<usize>,
-    // Those for which it is done in this one.
+    // The clients for which something is done in this turn.
     serving: Vec<usize>,
     clock: SetClock,
     cache: Cache,
@@ -118,7 +118,10 @@ impl CacheEnd<Sockets> {
         Self::listen_within(rt, address, settings, None)
     }
 
-    /// The same, where items and what is to be sent to clients take so many bytes at most, as [`over`](CacheEnd::over) says.
+    /// An empty server that listens on an address, `HOST:PORT`; with port 0 the system picks one. Where `memory` is given, items and what is to be sent to
+    /// clients take so many bytes at most, as [`over`](CacheEnd::over) says.
+    ///
+    /// The errors are the system's, among them those of an address that is none or is taken, and running out of memory.
     pub fn listen_within<R: Net + Clock + AllocGlobal>(
         rt: &R,
         address: &str,
@@ -375,7 +378,11 @@ impl<W: Wire> CacheEnd<W> {
         self.take_turn(rt, None)
     }
 
-    /// The same, but the wait ends after so long also where nothing is ready.
+    /// One turn whose wait ends after so long also where nothing is ready: accepts clients, and serves those that are ready. All asks of a turn are answered
+    /// at one moment.
+    ///
+    /// A client that ends, fails, or is refused memory is closed alone, and accepting that fails is tried again after a while. The errors are the system's:
+    /// of the wait and of the clock.
     pub fn turn_within<R: Clock>(&mut self, rt: &R, most: Duration) -> io::Result<()> {
         self.take_turn(rt, Some(most))
     }

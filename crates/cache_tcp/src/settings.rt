@@ -45,7 +45,7 @@ impl Settings {
         }
     }
 
-    /// The same, which a client may empty or not.
+    /// These settings, of a server that a client may empty by `flush_all`, or not. It keeps as many items.
     pub fn with_flushes(self, flushes: bool) -> Settings
         ensures { result.capacity ≡ self.capacity }
     {

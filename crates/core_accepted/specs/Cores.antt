@@ -32,23 +32,21 @@ pub record AreCoresOf (lag : ℕ) (trees : List Route) (fresh : ℕ → ServedCo
   pub rise : NumbersRise (told opening moments)
   pub serves : ServesPipes opening moments
 
--- A command that begins at any proxy after a delete of its key was acknowledged by any proxy shows no item of a store that was over when the delete began ..
-
--- .. where a store that failed was applied before, or never is
+-- where a store that failed was applied before, or never is: a command that begins at any proxy after a delete of its key was acknowledged by any proxy shows no item of a store that was over when the delete began
 abbrev pub FleetOfCoresIsFresh : Type 0
 FleetOfCoresIsFresh =
     (lag : ℕ) (trees : List Route) → AreOfFleet lag trees
     → (fresh : ℕ → ServedCore) (opening : ℕ → List ℕ → Option Item) (moments : List Moment) → AreCoresOf lag trees fresh opening moments
     → NoStoreLands moments → IsFreshBy opening WasOver moments
 
--- .. but of one that had failed over another connection than the delete's, where what was sent over a connection is applied in order, however late
+-- where what was sent over a connection is applied in order, however late: a command that begins at any proxy after a delete of its key was acknowledged by any proxy shows no item of a store that was over when the delete began, but of one that had failed over another connection than the delete's
 abbrev pub LateFleetOfCoresIsFresh : Type 0
 LateFleetOfCoresIsFresh =
     (lag : ℕ) (trees : List Route) → AreOfFleet lag trees
     → (fresh : ℕ → ServedCore) (line : ℕ → ℕ → ℕ) (opening : ℕ → List ℕ → Option Item) (steps : List PipeStep) → AreCoresOf lag trees fresh opening (moments_of steps)
     → PipesInOrder line steps → IsFreshBy opening (WasOverOn line) (moments_of steps)
 
--- .. where in addition each key has its connections
+-- where what was sent over a connection is applied in order, however late, and each key has its connections: a command that begins at any proxy after a delete of its key was acknowledged by any proxy shows no item of a store that was over when the delete began
 abbrev pub StickyFleetOfCoresIsFresh : Type 0
 StickyFleetOfCoresIsFresh =
     (lag : ℕ) (trees : List Route) → AreOfFleet lag trees

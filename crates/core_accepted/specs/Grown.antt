@@ -18,7 +18,7 @@ EveryGrownLogIsFresh arbitrary known served =
     (opening : ℕ → List ℕ → Option Item) (past : List (Entry dialect)) → MayHaveLed opening past served → OpensBy arbitrary (trees_of known.configs) opening
     → LosesOnly (run_of past) → IsFreshLog served.core.limits.sharing opening past
 
--- so it is on sound generations
+-- each log that may have led to a core on sound generations is fresh, where what was held at the beginning is what is said of the servers, and nobody else writes the servers
 abbrev pub GrownLogsAreFresh : Type 0
 GrownLogsAreFresh =
     (arbitrary : ℕ → Bool) (known : Known) (served : ServedCore) → served.accepted ≡ Some known

@@ -43,7 +43,7 @@ pub record DoesAsCore (served : ServedCore) (opening : ℕ → List ℕ → Opti
   pub own : Own (words_by led.tree) (bars_by served.core.limits.sharing (λ n key. tree_at (led.tree n) key)) (part only_proxy 0 (seen moments))
   pub serves : ServesPipes opening moments
 
--- the same of all that happened so
+-- where what is sent over a connection is applied in order, however late: of all that happened so, a command that begins after a delete of its key was acknowledged shows no item of a store that was over when the delete began
 abbrev pub EveryLateRunIsFresh : ServedCore → Type 0
 EveryLateRunIsFresh served =
     (opening : ℕ → List ℕ → Option Item) (steps : List PipeStep) → DoesAsCore served opening (moments_of steps) → PipesInOrder only_line steps → IsFreshBy opening WasOver (moments_of steps)

@@ -47,7 +47,7 @@ pub record LogsGoCounting (count : CoreTally → CoreTally) (old : ServedCore) (
       (opening : ℕ → List ℕ → Option Item) (past : List (Entry dialect)) (led : MayHaveLed opening past old)
       → (entries : List (Entry dialect)) × IsKind entries × (led' : MayHaveLed opening (entries ++ past) new) × IsBeside led.beside led'.beside
 
--- the same where nothing is counted
+-- the gate's word and the counts stay as they are, and each log that may have led to the core before goes on by entries of this kind, and may have led to the core after. Servers stay
 abbrev pub LogsGoBy : ServedCore → (List (Entry dialect) → Type 0) → ServedCore → Type 0
 LogsGoBy = LogsGoCounting (λ tally. tally)
 
@@ -60,7 +60,7 @@ pub record IsNewFrom (accepted : List Configuration) (begun : Beginnings) (limit
   pub core_is : core_state.IsNewCore config.tree limits served.core
   pub led : (opening : ℕ → List ℕ → Option Item) → MayHaveLed opening [] served
 
--- the same where servers may have held anything
+-- the gate accepted these configurations, the core is a new one on the tree of the last of them, which is its first generation, each server may have held anything, and the empty log led to it
 abbrev pub IsNew : List Configuration → CoreLimits → ServedCore → Type 0
 IsNew accepted limits served = IsNewFrom accepted any_begun limits served
 
@@ -94,7 +94,7 @@ IsAccepted served = (known : Known) × (served.accepted ≡ Some known) × (know
 abbrev pub EveryLogIsFresh : ServedCore → Type 0
 EveryLogIsFresh served = (opening : ℕ → List ℕ → Option Item) (past : List (Entry dialect)) → MayHaveLed opening past served → LosesOnly (run_of past) → IsFreshLog served.core.limits.sharing opening past
 
--- the same where servers held at first what is said of them
+-- each log that may have led to the core is fresh, where servers held at first what is said of them, and nobody else writes them
 abbrev pub EveryLogFromIsFresh : Known → ServedCore → Type 0
 EveryLogFromIsFresh known served =
     (opening : ℕ → List ℕ → Option Item) (past : List (Entry dialect)) → MayHaveLed opening past served → OpensBy (is_arbitrary known) (trees_of known.configs) opening

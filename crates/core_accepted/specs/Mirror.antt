@@ -26,7 +26,7 @@ pub record IsMirrored (proxy : ℕ → ℕ) (words : ℕ → Ask → List Call �
   pub run : sharing.Run words Bars opening (mirror proxy opening p events)
   pub changes : AreChanges (mirror proxy opening p events) (part proxy p events)
 
--- so it is with each fleet, over any connections
+-- in each run of a fleet, over any connections, each proxy sees a run of its own in which others write the servers
 abbrev pub FleetIsMirrored : (ℕ → Ask → List Call → Answer → Option ℕ → Type 0) → (ℕ → Ask → ℕ → Ask → Type 0) → Type 0
 FleetIsMirrored words Bars =
     (proxy : ℕ → ℕ) (opening : ℕ → List ℕ → Option Item) (p : ℕ) (moments : List Moment) → LateRun words Bars opening LandsEver moments → IsMirrored proxy words Bars opening p (told opening moments)

@@ -155,7 +155,7 @@ FleetHasSteps words Bars =
     (proxy : ℕ → ℕ) → BarsWithin proxy Bars
     → (line : ℕ → ℕ → ℕ) (opening : ℕ → List ℕ → Option Item) (steps : List PipeStep) → IsFleet proxy line words Bars opening steps → PipeSteps line words Bars opening steps
 
--- so it is fresh, where deletes clear what later commands take, at whatever proxy, and nothing copies
+-- what a fleet of such parts does is fresh, but for stores that had failed over another connection than the delete's, where deletes clear what later commands take, at whatever proxy, and nothing copies
 abbrev pub FleetOfPartsIsFresh : (ℕ → Ask → List Call → Answer → Option ℕ → Type 0) → (ℕ → Ask → ℕ → Ask → Type 0) → Type 0
 FleetOfPartsIsFresh words Bars =
     IsCovered words → NothingCopies words
@@ -168,7 +168,7 @@ NoStoreLands [] = Unit {0}
 NoStoreLands (Does event ∷ past) = NoStoreLands past
 NoStoreLands (Lands number server ask origin stamp answer spaces ∷ past) = (begins_stamp ask.op ≡ true → ⊥) × NoStoreLands past
 
--- then it is fresh over any connections, with regard to all stores
+-- where no store lands, what such parts do is fresh over any connections, with regard to all stores, where deletes clear what later commands take, at whatever proxy, and nothing copies
 abbrev pub PartsAreFresh : (ℕ → Ask → List Call → Answer → Option ℕ → Type 0) → (ℕ → Ask → ℕ → Ask → Type 0) → Type 0
 PartsAreFresh words Bars =
     IsCovered words → NothingCopies words

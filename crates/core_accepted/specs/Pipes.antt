@@ -61,7 +61,7 @@ module _ (line : ℕ → ℕ → ℕ) where
   pipe_after (Does (Restarts server)) p s tickets = tickets
   pipe_after (Lands number server ask origin stamp answer spaces) p s tickets = if is_pipe (line number server) server p s then behind_first tickets else tickets
 
-  -- the same after all steps
+  -- the calls that stand in a connection to a server, in order, after all steps
   abbrev pub pipe_of : List PipeStep → ℕ → ℕ → List Ticket
   pipe_of [] p s = []
   pipe_of (Sends number server ask origin ∷ past) p s =

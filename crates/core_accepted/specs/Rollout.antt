@@ -48,6 +48,6 @@ pub record FleetRunsAreFresh (tree : ℕ → Route) : Type 0 where
   pub late : (line : ℕ → ℕ → ℕ) (opening : ℕ → List ℕ → Option Item) (steps : List PipeStep) → PipeSteps line (words_by tree) nobody_bars opening steps → IsFreshBy opening (WasOverOn line) (moments_of steps)
   pub shared : (opening : ℕ → List ℕ → Option Item) (events : List Event) → sharing.LosesOnly events → sharing.Run (words_by tree) nobody_bars opening events → sharing.IsFresh opening events
 
--- so it is whichever of the trees commands run by, as long as they are near enough to each other
+-- every run of a fleet on such trees is fresh so, whichever of them commands run by, as long as they are near enough to each other
 abbrev pub FleetTreesAreFresh : Type 0
 FleetTreesAreFresh = (lag : ℕ) (trees : List Route) → AreOfFleet lag trees → (tree : ℕ → Route) → AreLoadedWithin lag trees tree → FleetRunsAreFresh tree

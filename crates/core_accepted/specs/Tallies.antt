@@ -1,4 +1,4 @@
--- What a core counts: clients, commands that ended, and calls. Source: mcgate's own.
+-- What a core counts: clients, messages that it refused, commands that ended, and calls. Source: mcgate's own.
 use Rattle.std.specs.Prelude.{ℕ, ◌+◌, ◌-◌, ◌^◌, Option, Some, None, Result, Ok, Err, Bool, true, false, List, replicate, min, slice_index, slice_set}
 use Rattle.mc_types.specs.declared.ask.Op.{Op}
 use Rattle.mc_types.specs.declared.call.Outcome.{Outcome}
@@ -52,12 +52,16 @@ with_note note tally = with_reply (reply_kind note) note.ask.op tally
 abbrev pub with_call : CoreTally → CoreTally
 with_call tally = record tally { calls = one_more tally.calls }
 
--- the command that a poll tells to have ended is counted, and the call that it gives out
+-- one more message was refused
+abbrev pub with_bad_message : CoreTally → CoreTally
+with_bad_message tally = record tally { bad_messages = one_more tally.bad_messages }
+
+-- the command that a poll tells to have ended is counted, the call that it gives out, and the message that it refuses
 abbrev pub with_poll : Poll → CoreTally → CoreTally
 with_poll (polls.Did note) tally = with_note note tally
 with_poll polls.Idle tally = tally
 with_poll polls.Own tally = tally
-with_poll polls.Refused tally = tally
+with_poll polls.Refused tally = with_bad_message tally
 with_poll (polls.Call ticket) tally = with_call tally
 with_poll polls.Waiting tally = tally
 with_poll polls.Queued tally = tally
@@ -102,7 +106,7 @@ with_opening (Err fault) tally = with_refusal tally
 
 -- nothing was done yet
 abbrev pub nothing_done : CoreTally
-nothing_done = record { opened = 0; refused = 0; ended = 0; calls = 0; answered = 0; failed = 0; errors = replicate 12 0; items = replicate 12 0; acknowledged = replicate 12 0; others = replicate 12 0 }
+nothing_done = record { opened = 0; refused = 0; bad_messages = 0; ended = 0; calls = 0; answered = 0; failed = 0; errors = replicate 12 0; items = replicate 12 0; acknowledged = replicate 12 0; others = replicate 12 0 }
 
 -- of one operation
 abbrev pub of_op : CoreTally → Op → OpTally

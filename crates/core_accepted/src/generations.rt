@@ -107,7 +107,8 @@ fn opened_ledger(
     }
 }
 
-// As `take_next`, also where there is no ledger yet.
+// The configuration is the next generation, and the last of the list, where it may be. Where there is no ledger yet, that of
+// the first one is made before.
 fn take_later(
     alloc: Global,
     ledger: &mut Option<Ledger>,

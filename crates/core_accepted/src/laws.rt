@@ -7,15 +7,18 @@ ghost use Rattle.core_accepted.specs.Losses.{ServersMayLose};
 
 use crate::served::ServedCore;
 
-/// Where the gate accepted its trees, each log that may have led to the core, and in which nobody else writes the servers, is
-/// fresh; where each command has its key alone, none of its replies is stale.
+/// Where the gate accepted its trees whatever servers held at first, each log that may have led to the core, and in which
+/// nobody else writes the servers, is fresh; where each command has its key alone, by numbers too, and none of its replies is
+/// stale.
 pub fn accepted_core_is_fresh(core: &ServedCore)
     ensures { IsAccepted core.now → EveryLogIsFresh core.now }
 {
     begun_core_is_fresh(core);
 }
 
-/// The same where something is said of what servers held at first, of each log that began so.
+/// Where the gate accepted its trees, each log that may have led to the core, and in which servers held at first what was said
+/// of them and nobody else writes them, is fresh; where each command has its key alone, by numbers too, and none of its replies
+/// is stale.
 pub fn begun_core_is_fresh(core: &ServedCore)
     ensures { (known : Known) → core.now.accepted ≡ Some known → EveryLogFromIsFresh known core.now }
 {

@@ -55,7 +55,11 @@ fn fault_of(unsound: Unsound, number: u32) -> ReloadFault
     }
 }
 
-/// The configuration is the next one that the gate accepts, and its tree the core's.
+/// The configuration is the next one that the gate accepts, and its tree the core's. It gives how many the gate has accepted,
+/// with this one.
+///
+/// It is refused where its list of servers doesn't begin with the one in use, where the ledger finds a fault of its tree, where
+/// the core has no number for one more tree, or memory was refused: all is then as it was.
 pub fn load_accepted(
     core: &mut Core,
     generations: &mut Generations,
@@ -94,7 +98,9 @@ pub fn load_accepted(
     }
 }
 
-/// The configuration's tree is the core's, and no gate is asked.
+/// The configuration's tree is the core's, and no gate is asked. It gives the core's generation.
+///
+/// It is refused where the core has no number for one more tree, or memory was refused: the core is then as it was.
 pub fn load_any(core: &mut Core, config: Config) -> Result<u32, LoadFault>
     ensures number { IfOk result (λ number. number ≡ core.new.generation) }
     ensures loaded { OnOk result (Reloads core.old config.tree core.new) }

@@ -31,6 +31,7 @@ use wire_parts::to_send::SendBuffer;
 /// Each of its commands runs by the tree that was loaded when it began. Each call does what the core's own call of that name
 /// does, and goes on with each log that may have led to this core. Where the gate accepted its trees, each such log is fresh,
 /// whatever calls were made ([`crate::laws::accepted_core_is_fresh`]); of other trees nothing is promised of what replies show.
+/// Below, each log means each that may have led to the core.
 #[derive(Drop)]
 pub struct ServedCore {
     pub(crate) core: Core,
@@ -41,8 +42,8 @@ pub struct ServedCore {
 }
 
 impl ServedCore {
-    /// A core without clients, on the tree of the accepted configuration in use, which is its first generation. The only error:
-    /// memory was refused.
+    /// A core without clients, on the tree of the accepted configuration in use, which is its first generation. Of what servers
+    /// held at first nothing is said. The only error: memory was refused.
     pub fn new(
         alloc: Global,
         accepted: Accepted,
@@ -53,7 +54,9 @@ impl ServedCore {
         ServedCore::new_from(alloc, accepted, Beginnings::any(), limits)
     }
 
-    /// The same where servers began so. Its logs are fresh where they did ([`crate::laws::begun_core_is_fresh`]).
+    /// A core without clients, on the tree of the accepted configuration in use, which is its first generation, before servers
+    /// that began as `begun` says. Its logs are fresh where they did ([`crate::laws::begun_core_is_fresh`]). The only error:
+    /// memory was refused.
     pub fn new_from(
         alloc: Global,
         accepted: Accepted,
@@ -82,7 +85,10 @@ impl ServedCore {
         }
     }
 
-    /// As `Core::open_client`.
+    /// A new client, by its id: the id of a client that was closed may be given out again. It is counted, and so is a client that
+    /// was turned away. Each log stays.
+    ///
+    /// `TooManyClients` where as many are open as may be; `NoMemory`.
     pub fn open_client(&mut self) -> Result<usize, CoreFault>
         ensures ok { IfOk result (λ client. CanOpen self.old.core × Opens self.old.core client self.new.core) }
         ensures err { IfErr result (λ fault. OpenFault self.old.core fault self.new.core) }
@@ -94,7 +100,11 @@ impl ServedCore {
         opening
     }
 
-    /// As `Core::feed`.
+    /// A piece of a client's bytes came. A client that is closed takes none of it. Each log goes on by the piece, or stays where
+    /// nothing is done for the client any more.
+    ///
+    /// `NoClient`; `InputFull` where what is held of the client and the piece are more bytes than may be held; `NoMemory`. After an
+    /// error all is as it was.
     pub fn feed(&mut self, client: usize, piece: &[u8]) -> Result<(), CoreFault>
         ensures ok { OnOk result (CanFeed self.old.core client piece.now × Feeds self.old.core client piece.now self.new.core) }
         ensures err { IfErr result (λ fault. FeedFault self.old.core client piece.now fault × (self.new ≡ self.old)) }
@@ -103,7 +113,8 @@ impl ServedCore {
         self.core.feed(client, piece)
     }
 
-    /// As `Core::give_back_room`.
+    /// Whether nothing is held of the client that isn't done, as of one that isn't there. The room for that goes back then, which
+    /// no clause sees: all is as it was.
     pub fn give_back_room(&mut self, client: usize) -> bool
         ensures none { IsTrue result ↔ (held_by (client_at self.old.core client) ≡ []) }
         ensures same { self.new ≡ self.old }
@@ -111,7 +122,9 @@ impl ServedCore {
         self.core.give_back_room(client)
     }
 
-    /// As `Core::move_output`.
+    /// A client's new output goes after what stands in `out`, and is then empty. Each log goes on by what was given.
+    ///
+    /// `NoClient`; `NoMemory`. After an error all is as it was, and `out` has the same bytes.
     pub fn move_output(&mut self, client: usize, out: &mut SendBuffer) -> Result<(), CoreFault>
         ensures bytes { OnOk result (bytes_of out.new ≡ bytes_of out.old ++ output_by (client_at self.old.core client)) }
         ensures ok { OnOk result (GivesAll self.old.core client (output_by (client_at self.old.core client)) self.new.core) }
@@ -122,7 +135,9 @@ impl ServedCore {
         self.core.move_output(client, out)
     }
 
-    /// As `Core::take_output`.
+    /// A client's new output, which is then empty. Each log goes on by what was given.
+    ///
+    /// `NoClient`; `NoMemory`. After an error all is as it was.
     pub fn take_output(&mut self, client: usize) -> Result<Vec<u8>, CoreFault>
         ensures ok { IfOk result (λ bytes. GivesAll self.old.core client bytes.items self.new.core) }
         ensures err { IfErr result (λ fault. OutputFault self.old.core client fault × (self.new ≡ self.old)) }
@@ -131,7 +146,10 @@ impl ServedCore {
         self.core.take_output(client)
     }
 
-    /// As `Core::close`.
+    /// The client is gone, and with it what it sent and was not given, and stands in no line of a key any more. Each log goes on by
+    /// that.
+    ///
+    /// `NoClient`; `UnderWay` where a command of it has begun and not ended. After an error all is as it was.
     pub fn close(&mut self, client: usize) -> Result<(), CoreFault>
         ensures ok { OnOk result (CanClose self.old.core client × ClosesClient self.old.core client self.new.core) }
         ensures err { IfErr result (λ fault. CloseFault self.old.core client fault × (self.new ≡ self.old)) }
@@ -140,7 +158,14 @@ impl ServedCore {
         self.core.close(client)
     }
 
-    /// As `Core::poll`.
+    /// Does the next thing that can be done for a client, and tells it: a command of it goes on, its next command begins, or a
+    /// message that asks no server is answered. [`Poll`] has what there is to tell, and `Core::poll` says when a command begins.
+    /// Each log goes on by what was told, and before that by a command that began, where one did. A command that ended is counted,
+    /// and so are a message that was refused and a call that was given out.
+    ///
+    /// `NoClient`, and `Spent` where the last number that there is was given out: all is as it was. `NoMemory`: nothing is done for
+    /// the client any more, which stands in no line of a key, and whose commands of which no call is out are broken off. Each log
+    /// goes on by what was done before, and by that.
     pub fn poll(&mut self, client: usize) -> Result<Poll, CoreFault>
         ensures ok { IfOk result (λ poll. Polls self.old.core client poll self.new.core) }
         ensures err { IfErr result (λ fault. PollFault self.old.core client fault self.new.core) }
@@ -152,15 +177,16 @@ impl ServedCore {
         polled
     }
 
-    /// What it has done so far: clients opened or turned away, commands ended, and calls given out, answered and failed, as its
-    /// calls told.
+    /// What it has done so far: clients opened or turned away, messages refused, commands ended, and calls given out, answered and
+    /// failed, as its calls told.
     pub fn tally(&self) -> CoreTally
         ensures { result ≡ self.now.tally }
     {
         self.tally
     }
 
-    /// As `Core::leave_line`.
+    /// The client leaves the line of the key that its next command waits for: whether it stood in one. Nothing else changes, and
+    /// each log stays.
     pub fn leave_line(&mut self, client: usize) -> bool
         ensures stood { result ≡ is_standing client self.old.core.lines }
         ensures left { LeavesLine self.old.core client self.new.core }
@@ -169,7 +195,7 @@ impl ServedCore {
         self.core.leave_line(client)
     }
 
-    /// As `Core::asked`.
+    /// What the call of this number asks that is out, which a client can write; `None` where none is out.
     pub fn asked(&self, number: u64) -> Option<&Ask>
         ensures exact { option_map (λ ask. ask.now) result ≡ asked self.now.core number }
         ensures formed { IfSome result (λ ask. IsAsk ask.now) }
@@ -177,7 +203,13 @@ impl ServedCore {
         self.core.asked(number)
     }
 
-    /// As `Core::settle`. The call had this outcome also where memory was refused for what comes of it.
+    /// A call that was given out had this outcome, which fits its ask. Its command goes on by that, or is broken off where nothing
+    /// is done for its client any more. The call is counted as answered or as failed. However the call ended at its server, if that
+    /// gives the outcome and fits what the server held, each log goes on by it.
+    ///
+    /// `NoTicket` where no call of the ticket's number is out: all is as it was. `NoMemory`: the call had its outcome all the same,
+    /// and is counted; nothing is done for the command's client any more, and those of its commands of which no call is out are
+    /// broken off.
     pub fn settle(&mut self, ticket: Ticket, outcome: Outcome) -> Result<(), CoreFault>
         requires fits { FitsCall self.old.core ticket.number outcome }
         ensures ok { OnOk result (TakesResult self.old ticket.number outcome self.new) }
@@ -191,14 +223,14 @@ impl ServedCore {
         settled
     }
 
-    /// As `Core::is_closed`.
+    /// Whether there is no client of this id, or nothing is read of it any more.
     pub fn is_closed(&self, client: usize) -> bool
         ensures { IsTrue result ↔ IsClosed self.now.core client }
     {
         self.core.is_closed(client)
     }
 
-    /// As `Core::is_out`.
+    /// Whether a command has begun and not ended.
     pub fn is_out(&self) -> bool
         ensures { IsTrue result ↔ IsOut self.now.core }
     {

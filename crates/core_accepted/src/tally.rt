@@ -14,6 +14,11 @@ pub struct CoreTally {
     pub opened: u64,
     /// How many it has turned away.
     pub refused: u64,
+    /// How many messages of clients it refused: no server was asked, and none of them counts as a command. Each was answered: by
+    /// `ERROR` where it is no command, or of another protocol; by `CLIENT_ERROR ..` where a key, a number, a flag, a flag's value or the
+    /// end of the data is wrong, or a line is too long; by `SERVER_ERROR object too large for cache` where the data would be longer than
+    /// 1,048,576 bytes.
+    pub bad_messages: u64,
     /// How many commands have ended.
     pub ended: u64,
     /// How many calls it gave out.
@@ -92,6 +97,7 @@ impl CoreTally {
         CoreTally {
             opened: 0,
             refused: 0,
+            bad_messages: 0,
             ended: 0,
             calls: 0,
             answered: 0,
@@ -130,7 +136,7 @@ impl CoreTally {
         }
     }
 
-    /// A poll ended with this: a command ended, or a call was given out, if it tells so.
+    /// A poll ended with this: a command ended, a call was given out, or a message was refused, if it tells so.
     pub fn note_polled(&mut self, polled: &Result<Poll, CoreFault>)
         ensures counted { IfOk polled.now (λ poll. self.new ≡ with_poll poll self.old) }
         ensures none { OnErr polled.now (self.new ≡ self.old) }
@@ -138,6 +144,7 @@ impl CoreTally {
         match polled {
             Ok(Poll::Did(note)) => self.note(note),
             Ok(Poll::Call(_)) => self.calls = self.calls.saturating_add(1),
+            Ok(Poll::Refused) => self.bad_messages = self.bad_messages.saturating_add(1),
             _ => {}
         }
     }

@@ -11,7 +11,7 @@ use mcgate_args::details::Details;
 use mcgate_args::ends::{End, Stop, end_of, read_configuration, run_events, run_input};
 use mcgate_args::input::{text_noting, text_of};
 use mcgate_args::input_text::InputFault;
-use mcgate_args::serve_arguments::ServeJob;
+use mcgate_args::serve_arguments::{ServeJob, all_places};
 use mcgate_args::slots::SlotsChange;
 use mcgate_args::tell_arguments::TellJob;
 use mcgate_check::{Form, RunFault};
@@ -100,6 +100,10 @@ mcgate serve --listen a:1 --config c --drain-on-eof => serve - fail-limit 3 drai
 mcgate serve --listen a:1,fd:0 --config c --drain-on-eof => refused
 mcgate serve --listen unix:a --unix-mode 660 --config c => serve - at unix:a 660 fail-limit 3 auto
 mcgate serve --listen unix:a --unix-mode 777 --config c => refused, told
+mcgate serve --listen a:1 --config c --listen unix:a --listen=b:2,fd:0 => serve - at a:1,unix:a,b:2,fd:0 600 fail-limit 3 auto
+mcgate serve --listen a:1 --listen fd:0 --config c --drain-on-eof => refused
+mcgate serve --listen a:1 --config c --listen => refused, told
+mcgate cache --listen a:1 --capacity 5 --listen b:2 => refused, told
 mcgate serve --listen a:1 --config c --fleet --reuse-port --tcp-backlog 9 => serve - fleet port shared backlog 9 fail-limit 3 auto
 mcgate serve --listen a:1 --config c --reuse-port => refused, told
 mcgate serve --listen a:1 --config c --keepalive-s 5 --resolve-s 7 => serve - keepalive-s 5 resolve-s 7 fail-limit 3 auto
@@ -281,13 +285,13 @@ fn push_unusual(out: &mut String, word: &str, number: u32, usual: u32) -> Result
     Ok(())
 }
 
-fn push_serve(out: &mut String, job: &ServeJob<'_>) -> Result<(), AllocError> {
+fn push_serve(out: &mut String, job: &ServeJob<'_>, places: &str) -> Result<(), AllocError> {
     write!(out, "serve {}", any_word(job.any))?;
     if job.fleet {
         out.push_str(" fleet")?;
     }
-    if job.listen != "a:1" {
-        write!(out, " at {} {}", job.listen, mode_word(job.unix_mode))?;
+    if places != "a:1" {
+        write!(out, " at {places} {}", mode_word(job.unix_mode))?;
     }
     if job.reuse_port {
         out.push_str(" port shared")?;
@@ -354,7 +358,7 @@ fn push_tell(out: &mut String, job: &TellJob<'_>) -> Result<(), AllocError> {
     Ok(())
 }
 
-fn push_job(out: &mut String, job: &Job<'_>) -> Result<(), AllocError> {
+fn push_job(alloc: Global, out: &mut String, job: &Job<'_>) -> Result<(), AllocError> {
     match job {
         Job::Run { task, file } => {
             push_task(out, *task)?;
@@ -413,7 +417,10 @@ fn push_job(out: &mut String, job: &Job<'_>) -> Result<(), AllocError> {
             push_number(out, "memory-mb", job.memory_mb)?;
             push_number(out, "turns", job.turns)?;
         }
-        Job::Serve(job) => push_serve(out, job)?,
+        Job::Serve(job, listen) => {
+            let places = all_places(alloc, listen.as_slice())?;
+            push_serve(out, job, places.as_str())?;
+        }
         Job::Tell(job) => push_tell(out, job)?,
         Job::Print(text) => out.push_str(text)?,
     }
@@ -422,7 +429,7 @@ fn push_job(out: &mut String, job: &Job<'_>) -> Result<(), AllocError> {
 
 fn job_words(alloc: Global, job: &Job<'_>) -> Result<String, AllocError> {
     let mut words = String::new(alloc);
-    push_job(&mut words, job)?;
+    push_job(alloc, &mut words, job)?;
     Ok(words)
 }
 

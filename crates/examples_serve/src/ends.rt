@@ -1,5 +1,7 @@
-//! Ends on 127.0.0.1 that are turned by turns: cache servers, proxies, and the clients' ends of connections.
+//! Ends on 127.0.0.1 that are turned by turns: cache servers, proxies, the program's loop, and the clients' ends of connections.
 
+use crate::wires::proxies::looked_up;
+use crate::wires::served::Served;
 use cache_tcp::CacheEnd;
 use examples_tables::configs::with_configs;
 use examples_tables::playing::{
@@ -9,7 +11,8 @@ use gate_check::{Accepted, judge};
 use route_json::addresses::Servers;
 use route_json::addresses::servers::MAX_SERVERS;
 use route_json::{Config, read_config, read_config_after};
-use serve_proxy::{Beginnings, LinkLimits, LinkNews, ProxyEnd, Settings, VersionText, text_at};
+use serde_json::Value;
+use serve_proxy::{Beginnings, LinkNews, ProxyEnd, Settings, VersionText, text_at};
 use serve_wire::Wire;
 use serve_wire::sockets::Sockets;
 use std::alloc::{AllocError, Global};
@@ -22,6 +25,9 @@ use std::{io, thread};
 type Cache = CacheEnd<Sockets>;
 
 type Proxy = ProxyEnd<Sockets>;
+
+/// The file whose texts the program's loop serves, in the folder in which the tests run.
+pub const SERVED: &str = "sockets.json";
 
 /// The ends. One that is gone is none any more.
 #[derive(Drop)]
@@ -36,6 +42,8 @@ pub struct TurnedEnds<'a> {
     proxies: Vec<Proxy>,
     // A proxy that isn't turned any more. Its connections stand.
     ended: Option<Proxy>,
+    // The program's loop, to which clients connect once it has begun.
+    served: Served<'a, Sockets>,
     // The text of the configuration by which the last proxy began.
     config: String,
     // When news were asked for last.
@@ -110,7 +118,7 @@ fn listening(rt: &HostRuntime, servers: &Servers) -> io::Result<Sockets> {
     let mut wire = Sockets::listen(rt, any_port())?;
     for at in 0..servers.len() {
         if let Some(text) = text_at(servers, at) {
-            let _ = wire.resolve(rt, text.as_bytes(), text.as_bytes());
+            let _ = wire.resolve(rt, text.as_bytes());
         }
     }
     Ok(wire)
@@ -165,9 +173,24 @@ fn load(
     config: Config,
     servers: &Servers,
 ) -> Result<String, Fail> {
-    match proxy.load(config, servers) {
+    let usual = proxy.usual_limits();
+    match proxy.load(config, servers, usual, &Value::Null) {
         Ok(number) => Ok(number.to_string(alloc)?),
         Err(_) => Ok("refused".to_string(alloc)?),
+    }
+}
+
+// What says that a call to the server of this name may take 200 milliseconds.
+fn said_of(alloc: Global, name: &str) -> Result<Value, Fail> {
+    let pool = format!(in alloc; "\"servers\":[\"{name}\"],\"call_ms\":200")?;
+    let said = format!(in alloc; "{{\"pools\":{{\"A\":{{{pool}}}}}}}")?;
+    Ok(Value::from_str(alloc, said.as_str())?)
+}
+
+fn limited(alloc: Global, servers: &Servers, server: usize) -> Result<Value, Fail> {
+    match text_at(servers, server) {
+        Some(name) => said_of(alloc, name),
+        None => Err("no such server")?,
     }
 }
 
@@ -241,6 +264,7 @@ impl<'a> TurnedEnds<'a> {
             gone: None,
             proxies: Vec::new(rt.alloc()),
             ended: None,
+            served: Served::new(rt, SERVED, 1),
             config: String::new(rt.alloc()),
             asked: None,
             played: None,
@@ -266,14 +290,21 @@ impl<'a> TurnedEnds<'a> {
         text_of(self.rt.alloc(), self.address_of(at)?, at)
     }
 
-    // Where clients connect: to the last proxy, or to the first cache where there is none.
+    // Where clients connect: to the program's loop or the last proxy, or to the first cache where there is none.
     fn front(&self) -> Result<SocketAddr, Fail> {
+        if let Some(wire) = self.served.wire() {
+            return Ok(wire.local_addr()?);
+        }
         if let Some(proxy) = self.proxies.last() {
             return Ok(proxy.wire().local_addr()?);
         }
-        match self.caches.first() {
-            Some(Some(cache)) => Ok(cache.address()?),
-            _ => Err("there is no end to connect to")?,
+        self.cache_address(0)
+    }
+
+    fn cache_address(&self, at: usize) -> Result<SocketAddr, Fail> {
+        match self.address_of(at)? {
+            Some(address) => Ok(address),
+            None => Err("there is no end to connect to")?,
         }
     }
 
@@ -281,7 +312,7 @@ impl<'a> TurnedEnds<'a> {
         for proxy in self.proxies.as_mut_slice() {
             proxy.turn_within(self.rt, Duration::from_millis(1))?;
         }
-        Ok(())
+        self.served.serve(1)
     }
 
     // Whether so many of the last proxy's calls are out, and nothing is left for it to do.
@@ -408,6 +439,27 @@ impl<'a> TurnedEnds<'a> {
         Ok(())
     }
 
+    // The file has this text, in which the first two caches' addresses stand for those of two servers.
+    fn put_text(&mut self, text: &str) -> Result<(), Fail> {
+        let alloc = self.rt.alloc();
+        let first = self.text_of(0)?;
+        let second = self.text_of(1)?;
+        let text = text.replace(alloc, "127.0.0.1:5001", first.as_str())?;
+        let text = text
+            .as_str()
+            .replace(alloc, "127.0.0.1:5002", second.as_str())?;
+        self.served.set("file", text.as_str())
+    }
+
+    // The program's loop begins by the text that the file has. Servers that a reload brings are empty.
+    fn begin_loop(&mut self) -> Result<(), Fail> {
+        self.served.set("new", "empty")?;
+        let text = self.served.text()?;
+        let wire = Sockets::listen(self.rt, any_port())?;
+        let wire = looked_up(self.rt, wire, text.as_str())?;
+        self.served.begin(wire, text)
+    }
+
     // Its number. What is sent by it comes in the pieces in which it was sent.
     fn keep(&mut self, stream: TcpStream) -> Result<usize, Fail> {
         stream.set_nonblocking(true)?;
@@ -419,8 +471,19 @@ impl<'a> TurnedEnds<'a> {
     }
 
     fn connect(&mut self) -> Result<usize, Fail> {
-        let stream = TcpStream::connect(self.rt, self.front()?)?;
+        let address = self.front()?;
+        self.connect_to(address)
+    }
+
+    fn connect_to(&mut self, address: SocketAddr) -> Result<usize, Fail> {
+        let stream = TcpStream::connect(self.rt, address)?;
         self.keep(stream)
+    }
+
+    // A client of the cache of this number.
+    fn connect_to_cache(&mut self, at: usize) -> Result<usize, Fail> {
+        let address = self.cache_address(at)?;
+        self.connect_to(address)
     }
 
     fn accepted(&self) -> Result<TcpStream, Fail> {
@@ -642,15 +705,14 @@ impl<'a> TurnedEnds<'a> {
         }
     }
 
-    // A call of the last proxy to the server may take 200 milliseconds from now on.
-    fn limit(&mut self, server: usize) {
+    // A call of the last proxy to the server may take 200 milliseconds from now on, as its pool says it.
+    fn limit(&mut self, server: usize) -> Result<(), Fail> {
+        let said = limited(self.rt.alloc(), &self.servers()?, server)?;
         if let Some(proxy) = last_of(&mut self.proxies) {
-            let limits = LinkLimits {
-                call_ms: 200,
-                ..proxy.usual_limits()
-            };
-            proxy.limit(server, limits);
+            let usual = proxy.usual_limits();
+            proxy.limit(usual, &said);
         }
+        Ok(())
     }
 
     fn next_news(&mut self) -> Option<(usize, LinkNews)> {
@@ -709,6 +771,8 @@ impl TurnedEnds<'_> {
             "quick-retry-proxy" => self.begin_proxy(text, retried_after(1)),
             "hasty-proxy" => self.begin_proxy(text, hasty()),
             "versioned-proxy" => self.begin_proxy(text, versioned()),
+            "file" => self.put_text(text),
+            "loop" => self.begin_loop(),
             _ => Err("no such event")?,
         }
     }
@@ -735,10 +799,7 @@ impl TurnedEnds<'_> {
                 self.empty_first(at);
                 Ok(())
             }
-            "limit" => {
-                self.limit(at);
-                Ok(())
-            }
+            "limit" => self.limit(at),
             _ => Err("no such event")?,
         }
     }
@@ -753,6 +814,7 @@ impl TurnedEnds<'_> {
             "count" => self.count(at, text),
             "often" => Ok(yes_or_no(self.gets_often(at, text)?).to_string(self.rt.alloc())?),
             "closed" => Ok(yes_or_no(self.is_closed(at)?).to_string(self.rt.alloc())?),
+            "to-cache" => Ok(self.connect_to_cache(at)?.to_string(self.rt.alloc())?),
             _ => {
                 self.set(verb, at, text)?;
                 Ok(String::new(self.rt.alloc()))
@@ -839,7 +901,9 @@ impl Stage for TurnedEnds<'_> {
             | "slow-retry-proxy"
             | "quick-retry-proxy"
             | "hasty-proxy"
-            | "versioned-proxy" => {
+            | "versioned-proxy"
+            | "file"
+            | "loop" => {
                 self.set_server(verb, text)?;
                 Ok(String::new(self.rt.alloc()))
             }

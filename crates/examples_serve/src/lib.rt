@@ -8,9 +8,13 @@ mod dialects;
 #[cfg(test)]
 mod ends;
 #[cfg(test)]
+mod events;
+#[cfg(test)]
 mod fleets;
 #[cfg(test)]
 mod link_news;
+#[cfg(test)]
+mod loops;
 #[cfg(test)]
 mod proxies;
 #[cfg(test)]

@@ -5,10 +5,10 @@ mod names;
 #[cfg(test)]
 mod peers;
 #[cfg(test)]
-mod proxies;
+pub mod proxies;
 #[cfg(test)]
 mod scripts;
 #[cfg(test)]
-mod served;
+pub mod served;
 #[cfg(test)]
 mod sockets;

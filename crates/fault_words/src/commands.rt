@@ -156,9 +156,9 @@ pub fn takes_of(flag: &str) -> Takes {
     }
 }
 
-/// Whether a flag may stand there more than once.
-pub fn is_repeated(flag: &str) -> bool {
-    flag == "with" || flag == "after"
+/// Whether a flag of a command may stand there more than once.
+pub fn is_repeated(command: Command, flag: &str) -> bool {
+    flag == "with" || flag == "after" || (flag == "listen" && command == Command::Serve)
 }
 
 /// The words of which one follows the flag of this name, where it takes one of a few.

@@ -102,7 +102,7 @@ impl Reader {
         let Some(flag) = flag_named(self.command.flags(), name) else {
             return Ok(Some(Cause::NoFlag(word)));
         };
-        if self.given.as_slice().contains(&flag) && !is_repeated(flag) {
+        if self.given.as_slice().contains(&flag) && !is_repeated(self.command, flag) {
             return Ok(Some(Cause::Twice(flag)));
         }
         self.given.push(flag)?;

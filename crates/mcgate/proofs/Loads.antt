@@ -1,5 +1,5 @@
 -- How an end begins, and what its core stays.
-use Rattle.std.proofs.Common.{◌≡◌, Bool, List, [], ◌∷◌, Result, Ok, Err, refl, sym, subst, append-nil, Option}
+use Rattle.std.proofs.Common.{◌≡◌, ℕ, Bool, List, [], ◌∷◌, Result, Ok, Err, refl, sym, subst, append-nil, Option}
 use Rattle.std.specs.Prelude.{IfOk}
 use Rattle.route_json.specs.Servers.{Addresses}
 use Rattle.route_json.specs.Configuration.{Configuration}
@@ -33,7 +33,8 @@ use Rattle.mcgate.specs.declared.serve.Servable.{Servable}
 use Rattle.mcgate.specs.declared.serve.Servable.TheVariants as servables
 use Rattle.mcgate.specs.Sharing.{sharing_for}
 use Rattle.mcgate_serve.specs.declared.serving.Serving.{Serving}
-use Rattle.mcgate_serve.specs.Serves.{proxy_of, GoesOnServing}
+use Rattle.mcgate_serve.specs.Serves.{proxy_of}
+use Rattle.mcgate_serve.specs.Limits.{ServesFrom}
 use Rattle.mcgate.specs.Served.{history_of, HasTree, IsUsedFirst, HasServers, BeginsBy, BeginsToServe, BeginsServing, GoFreshly, GoFreshlyLate, HasServed, StaysFresh}
 
 -- an end that began by these settings but for its sharing, which is that of its tree
@@ -94,21 +95,27 @@ has_results steps first last none walks tells orderly =
     (steps_are_counted.results_go_on steps [] first last walks tells (subst IsOrderly (sym (append-nil steps)) orderly) (subst (ResultsAreCounted []) (sym none) steps_are_counted.results_begin))
 
 pub has_served :
-    (servable : Servable) (begun : Beginnings) (settings : Settings) (first last : ProxyEnd Sockets) → BeginsServing servable begun settings first → GoesOnServing history_of first last → LogsAreFresh last.core.value
-    → TreesAreSound last.core.value → HasServed servable begun settings last
-has_served servable begun settings first last begins g fresh sound =
+    (servable : Servable) (text : List ℕ) (begun : Beginnings) (settings : Settings) (first last : ProxyEnd Sockets) → BeginsServing servable begun settings first → ServesFrom history_of settings text first last → LogsAreFresh last.core.value
+    → TreesAreSound last.core.value → HasServed servable text begun settings last
+has_served servable text begun settings first last begins from fresh sound =
+    let g = from.serves in
     let agrees : Agrees g.steps (proxy_of history_of last) = subst (λ l. Agrees l (proxy_of history_of last)) (append-nil g.steps) (g.agree [] begins.agrees) in
     let shared : Settings = record settings { sharing = sharing_for begins.core.0 } in
     record {
       first = first;
       begins = begins;
       serves = g;
+      limits = from.limits;
       agrees = agrees;
       fresh = has_freshly servable begun shared g.steps first.core.value last.core.value begins.core.2 g.walks fresh;
       late = has_freshly_late servable begun shared g.steps first.core.value last.core.value begins.core.2 g.walks begins.agrees.calls agrees.orderly sound;
       counts = has_counted g.steps first.core.value last.core.value (nothing_done_by servable begun shared first.core.value begins.core.2) g.walks;
       results = has_results g.steps first.core.value last.core.value (nothing_done_by servable begun shared first.core.value begins.core.2) g.walks begins.agrees.calls agrees.orderly;
     }
+
+-- its text is that with which it began
+pub served_text : {settings : Settings} {text known : List ℕ} (first last : ProxyEnd Sockets) → text ≡ known → ServesFrom history_of settings text first last → ServesFrom history_of settings known first last
+served_text {settings = settings} first last same from = subst (λ t. ServesFrom history_of settings t first last) same from
 
 by_kind :
     (servable : Servable) (begun : Beginnings) (settings : Settings) (steps : List Step) (a b : ServedCore) → BeginsBy servable begun settings a → Walks steps a b → LogsAreFresh b → TreesAreSound b → StaysFresh servable begun b
@@ -118,9 +125,9 @@ by_kind (servables.Accepted accepted) begun settings steps a b begins walks fres
 by_kind (servables.Unchecked configuration) begun settings steps a b begins walks fresh sound = tt
 
 pub stays_fresh :
-    (servable : Servable) (begun : Beginnings) (settings : Settings) (end : ProxyEnd Sockets) → HasServed servable begun settings end → LogsAreFresh end.core.value
+    (servable : Servable) (text : List ℕ) (begun : Beginnings) (settings : Settings) (end : ProxyEnd Sockets) → HasServed servable text begun settings end → LogsAreFresh end.core.value
     → TreesAreSound end.core.value → StaysFresh servable begun end.core.value
-stays_fresh servable begun settings end served fresh sound =
+stays_fresh servable text begun settings end served fresh sound =
     by_kind servable begun (record settings { sharing = sharing_for served.begins.core.0 }) served.serves.steps served.first.core.value end.core.value served.begins.core.2 served.serves.walks fresh sound
 
 -- what was known of the configuration in use as the first one began

@@ -1,5 +1,5 @@
 -- How a proxy that serves begins, and what it was in the end. Source: mcgate's own.
-use Rattle.std.specs.Prelude.{◌≡◌, Bool, true, false, List, [], Option, Some, None}
+use Rattle.std.specs.Prelude.{◌≡◌, ℕ, Bool, true, false, List, [], Option, Some, None}
 use Rattle.route_json.specs.Servers.{Addresses}
 use Rattle.route_json.specs.Configuration.{Configuration}
 use Rattle.route_tree.specs.Route.{Route}
@@ -21,6 +21,8 @@ use Rattle.core_accepted.specs.LateCores.{EveryLateLogIsFresh}
 use Rattle.serve_proxy.specs.LogsGoOn.{LogsGoFreshly}
 use Rattle.core_accepted.specs.Copying.{CopiesNothing}
 use Rattle.mcgate_serve.specs.Serves.{proxy_of, GoesOnServing}
+use Rattle.mcgate_serve.specs.Limits.{UseTexts}
+use Rattle.serve_links.specs.Lateness.{usual_limits}
 use Rattle.mcgate.specs.Sharing.{sharing_for}
 use Rattle.mcgate.specs.declared.serve.Servable.{Servable}
 use Rattle.mcgate.specs.declared.serve.Servable.TheVariants as servables
@@ -51,7 +53,7 @@ abbrev pub IsUsedFirst : (fleet : Bool) → Servable → Option Configuration �
 IsUsedFirst fleet servable None = fleet ≡ false
 IsUsedFirst fleet servable (Some used) = HasTree servable used.tree
 
--- the same by these settings, but that commands share their keys by the rule for its tree
+-- it is a new core on the trees that the gate accepted, where servers began so, or on the configuration's tree, of which no gate was asked: by these settings, but that commands share their keys by the rule for its tree
 abbrev pub BeginsToServe : Servable → Beginnings → Settings → ServedCore → Type 0
 BeginsToServe servable begun settings core = (tree : Route) × HasTree servable tree × BeginsBy servable begun (record settings { sharing = sharing_for tree }) core
 
@@ -71,16 +73,17 @@ abbrev pub GoFreshly : Servable → Beginnings → List Step → ServedCore → 
 GoFreshly (servables.Accepted accepted) begun steps first last = (configuration : Configuration) × IsLast accepted configuration × LogsGoFreshly configuration begun steps first last
 GoFreshly (servables.Unchecked configuration) begun steps first last = Unit {0}
 
--- and if servers may have held anything, it is fresh also however late they apply what had failed, where each applies what came over a connection in its order, and nothing of it after that was closed
+-- where the gate accepted what is served, and if servers may have held anything, each such log is fresh also however late they apply what had failed, where each applies what came over a connection in its order, and nothing of it after that was closed
 abbrev pub GoFreshlyLate : Servable → Beginnings → List Step → ServedCore → ServedCore → Type 0
 GoFreshlyLate (servables.Accepted accepted) begun steps first last = begun ≡ any_begun → AreFreshAlong steps first last
 GoFreshlyLate (servables.Unchecked configuration) begun steps first last = Unit {0}
 
--- an end that began so was served: turns and loads alone led to what it is, the ends of its clients and its links agree with them, each log goes on by them freshly, and what is counted is what they are
-pub record HasServed (servable : Servable) (begun : Beginnings) (settings : Settings) (end : ProxyEnd Sockets) : Type 0 where
+-- an end that began so was served: turns and loads alone led to what it is, by them calls were late by the limits of the text in use, which was this one at first, the ends of its clients and its links agree with them, each log goes on by them freshly, and what is counted is what they are
+pub record HasServed (servable : Servable) (text : List ℕ) (begun : Beginnings) (settings : Settings) (end : ProxyEnd Sockets) : Type 0 where
   pub first : ProxyEnd Sockets
   pub begins : BeginsServing servable begun settings first
   pub serves : GoesOnServing history_of first end
+  pub limits : (last : List ℕ) × UseTexts (usual_limits settings) (texts_of end.sockets.links.all.items) text last serves.steps
   pub agrees : Agrees serves.steps (proxy_of history_of end)
   pub fresh : GoFreshly servable begun serves.steps first.core.value end.core.value
   pub late : GoFreshlyLate servable begun serves.steps first.core.value end.core.value

@@ -3,6 +3,7 @@
 use libc::types::rlimit;
 use libc::{RLIMIT_NOFILE, getrlimit};
 use mcgate_args::serve_arguments::ServeJob;
+use mcgate_serve::events::{Event, Field, Subject};
 use mcgate_serve::lines::Lines;
 use watch_admin::places::PLACES;
 
@@ -10,10 +11,10 @@ use watch_admin::places::PLACES;
 // waits with, the file that is read again, and servers that a reload brings.
 const RESERVE: usize = 16;
 
-// And so many for who asks for numbers, where it listens for them: as many as may be there, the listener, and what waits for them.
+// So many descriptors are kept for who asks for numbers, where it listens for them: as many as may be there, the listener, and what waits for them.
 const WATCHING: usize = PLACES + 2;
 
-// And so many for who tells it things, where it listens for them.
+// So many descriptors are kept for who tells it things, where it listens for them: as many as may be there, the listener, and what waits for them.
 const CONTROLLING: usize = PLACES + 2;
 
 // How many descriptors the process may have open, if the system tells.
@@ -58,7 +59,14 @@ pub fn within_descriptors<'a, R: Eprint>(
         let line = format_args!(
             "mcgate: WARNING: {most} descriptors may be open (ulimit -n): {clients} clients are served at once, not {wanted}; {servers} are kept for servers, {rest} for the rest"
         );
-        lines.warn(rt, line);
+        let fields = [
+            Field::event("few_descriptors"),
+            Field::count("descriptors", most as u64),
+            Field::count("clients", clients as u64),
+            Field::count("servers", servers as u64),
+            Field::count("rest", rest as u64),
+        ];
+        lines.tell(rt, Event::warn(Subject::Process, &fields), line);
     }
     ServeJob { settings, ..job }
 }

@@ -77,7 +77,7 @@ fn listener_at<R: Files + Net + Given>(
     }
 }
 
-// The same. Where it can't, a line of detail says why.
+// It listens where a text says. Where it can't, a line of detail says why.
 fn listener_noting<R: Files + Net + Given + AllocGlobal>(
     rt: &R,
     text: &str,

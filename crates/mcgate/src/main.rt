@@ -31,7 +31,7 @@ use mcgate_args::input::text_noting;
 use mcgate_args::input_text::InputFault;
 use mcgate_args::plan_arguments::PlanJob;
 use mcgate_args::plans::run_plan;
-use mcgate_args::serve_arguments::ServeJob;
+use mcgate_args::serve_arguments::{ServeJob, all_places};
 use mcgate_check::Form;
 use mcgate_check::status::{BAD_INPUT, DONE, REFUSED};
 use mcgate_replay::Judging;
@@ -157,7 +157,7 @@ fn run_check_after<R: Files + Input + AllocGlobal + Eprint, W: Write>(
     }
 }
 
-/// The same of a script of events over a configuration.
+/// Runs a script of events over a configuration, and prints what comes of it. What is wrong with its bad line is said on standard error.
 fn run_script<R: Files + Input + AllocGlobal + Eprint, W: Write>(
     rt: &R,
     judging: Judging,
@@ -582,6 +582,24 @@ fn run_serve<R: Files + Input + AllocGlobal + Net + Clock + Print + Eprint + Giv
     }
 }
 
+/// Serves what a job names, where each of these texts says, or prints why it isn't served.
+fn run_serve_at<R: Files + Input + AllocGlobal + Net + Clock + Print + Eprint + Given, W: Write>(
+    rt: &R,
+    job: ServeJob<'_>,
+    listen: &[&str],
+    out: &mut W,
+    details: &mut Details,
+) -> Result<u8, Stop> {
+    let Ok(places) = all_places(rt.alloc(), listen) else {
+        return Err(Stop::Memory);
+    };
+    let job = ServeJob {
+        listen: places.as_str(),
+        ..job
+    };
+    run_serve(rt, job, out, details)
+}
+
 /// Serves the configuration of a text, which may be served.
 fn serve_text<R: Files + Input + AllocGlobal + Net + Clock + Print + Eprint + Given, W: Write>(
     rt: &R,
@@ -640,7 +658,7 @@ fn run<R: Files + Input + AllocGlobal + Env + Net + Clock + Print + Eprint + Giv
             most,
         } => run_loopback(rt, file, flushes_new, most, out, details),
         Job::Cache(job) => serve_cache(rt, job, details),
-        Job::Serve(job) => run_serve(rt, job, out, details),
+        Job::Serve(job, listen) => run_serve_at(rt, job, &listen, out, details),
         Job::Tell(job) => tell(rt, &job, out, details),
         Job::Print(text) => {
             out.write_all(text.as_bytes())?;

@@ -1,6 +1,6 @@
 //! `mcgate serve`: the configuration is read and judged, and then served.
 
-ghost use Rattle.std.specs.Prelude.{◌≡◌, IfOk, false, [], ℕ, List, Some, slice_get, OnOk, ◌∷◌};
+ghost use Rattle.std.specs.Prelude.{◌≡◌, IfOk, false, [], ℕ, List, Some, slice_get, OnOk, ◌∷◌, string_bytes};
 ghost use Rattle.serve_wire.specs.Events.{looks_up};
 ghost use Rattle.serve_links.specs.Story.{HasHappened};
 ghost use Rattle.serve_links.specs.Story.{Agrees, texts_of};
@@ -20,6 +20,7 @@ use mcgate_args::serve_arguments::ServeJob;
 use mcgate_check::checking::{print_fault, print_refused};
 use mcgate_check::status::DONE;
 use mcgate_serve::controlling::Controlling;
+use mcgate_serve::events::{Event, Field, Subject};
 use mcgate_serve::folders::look_for_socket;
 use mcgate_serve::lines::Lines;
 use mcgate_serve::seen::Seen;
@@ -85,7 +86,7 @@ impl Servable {
         Ok(Some(self.config().copy(alloc)?))
     }
 
-    // Its servers.
+    // The servers of its configuration.
     fn servers(&self, alloc: Global) -> Result<Servers, AllocError>
         ensures { IfOk result (λ servers. HasServers self.now servers) }
     {
@@ -106,7 +107,7 @@ fn judge_config<W: Write>(alloc: Global, config: Config, out: &mut W) -> Result<
     }
 }
 
-// The same, or with `any` the configuration whatever the gate says.
+// The configuration, if the gate accepts it, or with `any` whatever the gate would say; else why not is printed.
 fn take_config<W: Write>(
     alloc: Global,
     any: bool,
@@ -212,7 +213,7 @@ fn look_up<R: Net + AllocGlobal + Eprint>(
     Ok(())
 }
 
-// The same of this one of them.
+// The wire looks up the server of this number, if there is one. If it names no host that is told, and seen.
 fn look_up_at<R: Net + AllocGlobal + Eprint>(
     rt: &R,
     lines: &mut Lines,
@@ -230,7 +231,7 @@ fn look_up_at<R: Net + AllocGlobal + Eprint>(
     }
 }
 
-// The same of this text.
+// The wire looks up the server of this text. If it names no host that is told, and seen.
 fn look_up_text<R: Net + AllocGlobal + Eprint>(
     rt: &R,
     lines: &mut Lines,
@@ -240,7 +241,7 @@ fn look_up_text<R: Net + AllocGlobal + Eprint>(
 ) -> io::Result<()>
     ensures { history_of wire.new ≡ looks_up text.now ∷ history_of wire.old }
 {
-    let found = wire.resolve(rt, text.as_bytes(), address_in(text).as_bytes());
+    let found = wire.resolve(rt, text.as_bytes());
     let is_found = tell_if_unknown(rt, lines, text, found)?;
     seen.note_found(rt.alloc(), text, is_found);
     Ok(())
@@ -254,7 +255,7 @@ fn look_up_server<N: Net>(net: &N, address: &str) -> io::Result<()> {
     Ok(())
 }
 
-// The same where there is no wire: how many name no host.
+// Looks up these servers where there is no wire, and tells those that name no host: how many these are.
 fn tell_unknown<R: Net + Eprint>(
     rt: &R,
     lines: &mut Lines,
@@ -326,6 +327,7 @@ fn start<R: Net + Clock + AllocGlobal + Eprint>(
 ) -> io::Result<Serving<Sockets>>
     ensures begins { IfOk result (λ serving. BeginsServing servable job.now.begun job.now.settings serving.end) }
     ensures in_use { IfOk result (λ serving. IsUsedFirst job.now.fleet servable serving.in_use) }
+    ensures text { IfOk result (λ serving. serving.text ≡ started.text) }
 {
     let servers = servable.servers(rt.alloc())?;
     let in_use = servable.used_first(rt.alloc(), job.fleet)?;
@@ -348,11 +350,24 @@ fn start<R: Net + Clock + AllocGlobal + Eprint>(
 }
 
 /// Serves a configuration to those who come to these listeners, which starts so, and tells it; who asks for numbers gets them, and who
-/// tells it things is answered, where it listens for them. What it was in the end comes with the exit status after the turns that were asked, or once it has drained, or with why
-/// it ended before.
+/// tells it things is answered, where it listens for them. What it was in the end comes with the exit status after the turns that were asked, or once it
+/// has drained, or with why it ended before.
+///
+/// Whatever clients and servers did (`served`): it began with a new core of that configuration and each link to its server, and only turns, and loads of
+/// configurations that texts said, led to what it was in the end. What came and went over the connections of its clients and servers agrees with these
+/// calls of the core, and what it counted is just what they were.
+///
+/// Where the gate accepted the configuration, servers held at first what the job says, and nobody else wrote them, no command that began after a delete of
+/// its key was acknowledged showed an item of a store that was over when the delete began (`served` says so of each log that goes on by just these calls,
+/// `fresh` of each that may have led to the core in the end). If servers may have held anything, that is so also where they applied late what had failed,
+/// each in the order of its connections.
+///
+/// Each server has the limits that its pools say in the text in use, which is `started`'s at first, and the settings' where they say none: by these each
+/// late call was late, and each connection that was given up had its time (`served`).
 ///
 /// [`Stop::Device`] comes where the system's wait or clock fails, and [`Stop::Memory`] where memory was refused for a configuration that is
-/// read while it runs. An error comes where the system doesn't watch the listeners, or memory was refused for the proxy itself.
+/// read while it runs, or for the limits of the first one. An error comes where the system doesn't watch the listeners, or memory was refused for the proxy
+/// itself.
 pub fn serve_to_end<R: Files + Input + Net + Clock + AllocGlobal + Print + Eprint>(
     rt: &R,
     job: &ServeJob<'_>,
@@ -363,7 +378,7 @@ pub fn serve_to_end<R: Files + Input + Net + Clock + AllocGlobal + Print + Eprin
     watching: Option<Watching>,
     controlling: Option<Controlling>,
 ) -> io::Result<(Serving<Sockets>, Result<u8, Stop>)>
-    ensures served { IfOk result (λ ended. HasServed servable job.now.begun job.now.settings ended.0.end) }
+    ensures served { IfOk result (λ ended. HasServed servable (string_bytes started.text) job.now.begun job.now.settings ended.0.end) }
     ensures fresh { IfOk result (λ ended. StaysFresh servable job.now.begun ended.0.end.core.value) }
 {
     let mut serving = start(
@@ -423,7 +438,7 @@ fn look_at_path<R: Files + AllocGlobal>(
     }
 }
 
-// The same of a place.
+// Looks up where it would listen at this place, a host and a port or a path. Where it couldn't, as far as that is known, a line of detail says why.
 fn look_at_place<R: Files + Net + AllocGlobal>(
     rt: &R,
     text: &str,
@@ -436,7 +451,7 @@ fn look_at_place<R: Files + Net + AllocGlobal>(
     }
 }
 
-// The same of each of these places.
+// Looks up where it would listen at each of these places. Where it couldn't at one, as far as that is known, a line of detail says why.
 fn look_up_places<R: Files + Net + AllocGlobal>(
     rt: &R,
     places: &str,
@@ -485,6 +500,12 @@ pub fn look_up_only<R: Files + Net + AllocGlobal + Eprint>(
         job.listen,
         servers.len()
     );
-    lines.tell(rt, line);
+    let fields = [
+        Field::event("can_be_served"),
+        Field::text("file", job.file),
+        Field::text("at", job.listen),
+        Field::count("servers", servers.len() as u64),
+    ];
+    lines.tell(rt, Event::info(Subject::Process, &fields), line);
     Ok(DONE)
 }

@@ -65,7 +65,7 @@ fn on() -> [u8; 16] {
     value
 }
 
-// As the system takes it, which cuts it.
+// How many connections may wait, as the system takes it: it cuts what is greater.
 fn length_of(backlog: u32) -> i32 {
     i32::try_from(backlog).unwrap_or(i32::MAX)
 }

@@ -19,6 +19,6 @@ abbrev pub FindsInTask : Task → Result (String Global) InputFault → Option B
 FindsInTask (tasks.Check form) input found = found ≡ None
 FindsInTask (tasks.Replay judging) input found = FindsBy FindsBadLine input found
 
--- in events over a configuration
+-- in events over a configuration their first bad line
 abbrev pub FindsInEvents : Configuration → Result (String Global) InputFault → Option BadLine → Type 0
 FindsInEvents config input found = FindsBy (λ text bad. IsWrong 1 (lines_of text) config bad) input found

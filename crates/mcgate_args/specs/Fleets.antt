@@ -33,7 +33,7 @@ JudgesAlone config old new (Some status) = (status ≡ 1) × (reason : Reason) �
 abbrev pub TextIsAccepted : List ℕ → Type 0
 TextIsAccepted text = (config : Configuration) × (read_or (read text) ≡ Ok (config.tree, config.servers)) × IsCertified config.tree
 
--- so it is, and nothing was written; or what `check` prints of it was
+-- the text is a configuration that the gate accepts, and nothing was written; or what `check` prints of it was, and its status isn't 0
 abbrev pub ChecksAlone : List ℕ → Option (List ℕ) → Option (List ℕ) → Option ℕ → Type 0
 ChecksAlone text old new None = TextIsAccepted text × (new ≡ old)
 ChecksAlone text old new (Some status) = (status ≡ 0 → ⊥) × Checks Lines text old new status

@@ -85,8 +85,8 @@ pub enum Job<'a> {
     },
     /// Be a cache server.
     Cache(CacheJob<'a>),
-    /// Serve a configuration over TCP.
-    Serve(ServeJob<'a>),
+    /// Serve a configuration over TCP, where each of these texts says.
+    Serve(ServeJob<'a>, Vec<&'a str>),
     /// Tell a proxy that runs something.
     Tell(TellJob<'a>),
     /// Print this text.
@@ -382,7 +382,7 @@ fn job_of<'a>(
         Command::Certify => Ok(certify_job(given)),
         Command::Replay => replay_job(given),
         Command::Where => where_job(alloc, given),
-        Command::Serve => serve_job(given),
+        Command::Serve => serve_job(alloc, given),
         Command::Cache => cache_job(given),
         Command::Loopback => loopback_job(given),
         Command::History => history_job(given),

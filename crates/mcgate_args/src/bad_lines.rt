@@ -29,7 +29,8 @@ pub fn bad_line_of_task<'a>(
     }
 }
 
-/// The same of an input of events over a configuration.
+/// The first bad line of an input of events over this configuration and what is wrong with it. `None` where no line is bad, and where the
+/// input was not read. The only error is running out of memory.
 ///
 /// Source: mcgate's own.
 pub fn bad_line_of_events<'a>(

@@ -4,14 +4,14 @@ use clap::{Arg, ArgAction};
 use fault_words::commands::{Command, TOP_FLAGS, Takes, is_repeated, takes_of};
 use std::alloc::{AllocError, Global};
 
-// The flag of this name.
-fn flag<'a>(alloc: Global, name: &'static str) -> Arg<'a> {
+// The flag of this name of a command.
+fn flag<'a>(alloc: Global, command: Command, name: &'static str) -> Arg<'a> {
     let flag = Arg::new(alloc, name).long(name);
     if name == "help" {
         flag.short('h').action(ArgAction::SetTrue)
     } else if takes_of(name) == Takes::Nothing {
         flag.action(ArgAction::SetTrue)
-    } else if is_repeated(name) {
+    } else if is_repeated(command, name) {
         flag.action(ArgAction::Append)
     } else {
         flag.action(ArgAction::Set)
@@ -43,15 +43,16 @@ fn words_of(command: Command) -> &'static [&'static str] {
 
 // What an argument is.
 #[derive(Clone, Copy)]
-enum Kind {
-    Flag,
+enum ArgumentKind {
+    // A flag of this command.
+    Flag(Command),
     Word,
 }
 
-fn argument<'a>(alloc: Global, kind: Kind, name: &'static str) -> Arg<'a> {
+fn argument<'a>(alloc: Global, kind: ArgumentKind, name: &'static str) -> Arg<'a> {
     match kind {
-        Kind::Flag => flag(alloc, name),
-        Kind::Word => word(alloc, name),
+        ArgumentKind::Flag(command) => flag(alloc, command, name),
+        ArgumentKind::Word => word(alloc, name),
     }
 }
 
@@ -59,7 +60,7 @@ fn argument<'a>(alloc: Global, kind: Kind, name: &'static str) -> Arg<'a> {
 fn with_arguments<'a>(
     alloc: Global,
     parser: clap::Command<'a>,
-    kind: Kind,
+    kind: ArgumentKind,
     names: &[&'static str],
 ) -> Result<clap::Command<'a>, AllocError> {
     let mut parser = parser;
@@ -95,8 +96,8 @@ fn bare_parser<'a>(alloc: Global, name: &'static str) -> clap::Command<'a> {
 // The parser of what follows a command.
 fn parser_of<'a>(alloc: Global, command: Command) -> Result<clap::Command<'a>, AllocError> {
     let parser = bare_parser(alloc, command.name());
-    let parser = with_arguments(alloc, parser, Kind::Flag, command.flags())?;
-    with_arguments(alloc, parser, Kind::Word, words_of(command))
+    let parser = with_arguments(alloc, parser, ArgumentKind::Flag(command), command.flags())?;
+    with_arguments(alloc, parser, ArgumentKind::Word, words_of(command))
 }
 
 // Drops a parser.
@@ -120,7 +121,12 @@ fn with_command<'a>(
 /// The parser of the program's arguments. The only error is running out of memory.
 pub fn program<'a>(alloc: Global) -> Result<clap::Command<'a>, AllocError> {
     let parser = bare_parser(alloc, "mcgate");
-    let mut parser = with_arguments(alloc, parser, Kind::Flag, TOP_FLAGS.as_slice())?;
+    let mut parser = with_arguments(
+        alloc,
+        parser,
+        ArgumentKind::Flag(Command::Help),
+        TOP_FLAGS.as_slice(),
+    )?;
     for command in COMMANDS {
         parser = with_command(alloc, parser, command)?;
     }

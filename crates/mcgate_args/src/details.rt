@@ -285,7 +285,7 @@ impl Details {
         }
     }
 
-    // The same of the first line of a script.
+    // Why the gate refuses the tree of a script's first line, where the script comes from this file or from standard input, and what to change there.
     fn add_refused_script(&mut self, alloc: Global, file: Option<&str>, text: &str) {
         let origin = Origin::FirstLine(file);
         let line = front_of(text).line;

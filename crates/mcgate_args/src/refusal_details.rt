@@ -82,7 +82,7 @@ fn changes_of(
     Ok(String::from_utf8_lossy(alloc, changes.as_slice())?)
 }
 
-// The same without the marks of comments, each with a semicolon behind it.
+// The first two of these changes come behind the line, without the marks of comments, each with a semicolon behind it.
 fn push_changes(line: &mut String, changes: &str) -> Result<(), AllocError> {
     for change in changes.lines().take(2) {
         line.push_str(change.strip_prefix("# ").unwrap_or(change))?;
@@ -91,7 +91,7 @@ fn push_changes(line: &mut String, changes: &str) -> Result<(), AllocError> {
     Ok(())
 }
 
-// The same as one line, and which command tells more.
+// What to change, as one line, and which command tells more.
 fn change_line(
     alloc: Global,
     name: &str,

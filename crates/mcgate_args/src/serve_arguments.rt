@@ -1,11 +1,12 @@
 //! The arguments of `mcgate serve`, and what they ask for.
 
-use crate::arguments::{ArgumentsFault, Job, count_of};
+use crate::arguments::{ArgumentsFault, Job, count_of, texts_of};
 use crate::beginning_arguments::{begun_of, flushes_new};
 use crate::log_arguments::{Log, log_of};
 use clap::ArgMatches;
 use core_accepted::Beginnings;
 use serve_links::{ServerDialect, Settings, VersionText};
+use std::alloc::{AllocError, Global};
 
 /// What `mcgate serve` is to do.
 #[derive(Clone, Copy)]
@@ -86,7 +87,7 @@ Reads a configuration in JSON, of FILE, and asks the gate. A tree that it accept
 to the configuration's servers, at their addresses. Lines on standard error tell when it listens, and when a server's connection
 opens, fails or comes back.
   --listen unix:PATH     clients of this machine connect at PATH; --listen fd:0: to the socket that standard input is, which listens
-                         several places with a comma between two: --listen HOST:PORT,unix:PATH
+                         already; with several --listen, or places with a comma between two, HOST:PORT,unix:PATH, at each of them
   --unix-mode WORD       who may connect at PATH: 600, the user that it runs as, 660, its group too, or 666, everybody; 600
   --tcp-backlog N        so many connections may wait to be accepted at HOST:PORT, 1024
   --reuse-port           others of the fleet may listen at the same HOST:PORT, and connections are shared out; with --fleet alone
@@ -248,14 +249,24 @@ fn history_of<'a>(given: &ArgMatches<'a>) -> Result<Option<&'a str>, ArgumentsFa
 }
 
 // Whether it drains once standard input has ended, which isn't where it listens then.
-fn drains_on_eof(given: &ArgMatches<'_>, listen: &str) -> Result<bool, ArgumentsFault> {
+fn drains_on_eof(given: &ArgMatches<'_>, listen: &[&str]) -> Result<bool, ArgumentsFault> {
     let drains = given.get_flag("drain-on-eof");
-    for place in listen.split(',') {
-        if drains && place == "fd:0" {
+    for places in listen {
+        if drains && has_input(places) {
             return Err(ArgumentsFault::Refused);
         }
     }
     Ok(drains)
+}
+
+// Whether standard input is among these places.
+fn has_input(places: &str) -> bool {
+    for place in places.split(',') {
+        if place == "fd:0" {
+            return true;
+        }
+    }
+    false
 }
 
 // How it listens.
@@ -267,7 +278,7 @@ struct Listening {
     drain_on_eof: bool,
 }
 
-fn listening_of(given: &ArgMatches<'_>, listen: &str) -> Result<Listening, ArgumentsFault> {
+fn listening_of(given: &ArgMatches<'_>, listen: &[&str]) -> Result<Listening, ArgumentsFault> {
     Ok(Listening {
         unix_mode: mode_of(given)?,
         tcp_backlog: count_of(given, "tcp-backlog")?.unwrap_or(TCP_BACKLOG),
@@ -334,16 +345,39 @@ fn judgement_of<'a>(given: &ArgMatches<'a>) -> Result<Judgement<'a>, ArgumentsFa
     })
 }
 
-/// What the arguments after `serve` ask for.
-pub fn serve_job<'a>(given: &ArgMatches<'a>) -> Result<Job<'a>, ArgumentsFault> {
-    let (Some(file), Some(listen)) = (given.get_str("config"), given.get_str("listen")) else {
+/// What the arguments after `serve` ask for, and each text that says where to listen. The job itself has the first of them: [`all_places`]
+/// makes one of all.
+pub fn serve_job<'a>(alloc: Global, given: &ArgMatches<'a>) -> Result<Job<'a>, ArgumentsFault> {
+    let listen = texts_of(alloc, given, "listen")?;
+    let job = serve_job_at(given, listen.as_slice())?;
+    Ok(Job::Serve(job, listen))
+}
+
+/// These texts of places as one, with a comma between two. The only error is running out of memory.
+pub fn all_places(alloc: Global, texts: &[&str]) -> Result<String, AllocError> {
+    let mut places = String::new(alloc);
+    for text in texts {
+        if !places.is_empty() {
+            places.push_str(",")?;
+        }
+        places.push_str(text)?;
+    }
+    Ok(places)
+}
+
+// The job with these texts that say where to listen.
+fn serve_job_at<'a>(
+    given: &ArgMatches<'a>,
+    places: &[&'a str],
+) -> Result<ServeJob<'a>, ArgumentsFault> {
+    let (Some(file), Some(listen)) = (given.get_str("config"), places.first().copied()) else {
         return Err(ArgumentsFault::Refused);
     };
-    let listening = listening_of(given, listen)?;
+    let listening = listening_of(given, places)?;
     let times = times_of(given)?;
     let turns = turns_of(given)?;
     let judged = judgement_of(given)?;
-    Ok(Job::Serve(ServeJob {
+    Ok(ServeJob {
         file,
         listen,
         unix_mode: listening.unix_mode,
@@ -368,5 +402,5 @@ pub fn serve_job<'a>(given: &ArgMatches<'a>) -> Result<Job<'a>, ArgumentsFault> 
         reload_every: turns.reload_every,
         reload_ms: turns.reload_ms,
         turns: turns.turns,
-    }))
+    })
 }

@@ -85,6 +85,6 @@ RunsLoopback text = RunsTold (text_told text)
 
 -- ---- what was read of a text
 
--- so is each text run that is read so
+-- what was read is run so of each text that is read so
 abbrev pub RunsRead : Result ConfiguredScript ScriptFault → Option (List ℕ) → Option (List ℕ) → ℕ → Type 0
 RunsRead read old new status = (t : Result Told WhyNot) → ReadsScript t read → RunsTold t old new status

@@ -45,7 +45,7 @@ impl Calls {
         }
     }
 
-    /// This is lost just before the call of this turn from here, after what was named before.
+    /// What this loss names is lost just before the call of this turn from here, after what was named before.
     pub fn lose_at(&mut self, turn: u32, loss: Loss) -> Result<(), AllocError> {
         let number = self.number_at(turn);
         add_loss(self.alloc, &mut self.losses, number, loss)

@@ -10,6 +10,7 @@ use mc_types::limits::SCRIPT_CLIENTS;
 use route_json::Config;
 use route_json::addresses::Servers;
 use script_events::{Event, Output, PIECE_CUT, Reload, Script};
+use serde_json::Value;
 use serve_proxy::{Beginning, Beginnings, ProxyEnd, ServerDialect, Settings, text_at};
 use serve_wire::Wire;
 use serve_wire::sockets::Sockets;
@@ -38,6 +39,8 @@ pub struct Counts {
 pub struct Ends {
     alloc: Global,
     proxy: ProxyEnd<Sockets>,
+    // Where the proxy listens: the text by which the wire knows it.
+    address: String,
     // The wire of the servers and the clients, none of which is waited for.
     wire: Sockets,
     servers: ServerEnds,
@@ -62,21 +65,16 @@ fn listen<R: Net + Clock + AllocGlobal>(rt: &R, servers: &Servers) -> io::Result
     let mut wire = Sockets::listen(rt, any_port())?;
     for at in 0..servers.len() {
         if let Some(text) = text_at(servers, at) {
-            wire.resolve(rt, text.as_bytes(), text.as_bytes())?;
+            wire.resolve(rt, text.as_bytes())?;
         }
     }
     Ok(wire)
 }
 
-// By this name the far wire knows the proxy.
-const PROXY: &[u8] = b"proxy";
-
-// A wire for the servers and the clients, which has looked up the proxy.
-fn far_wire<R: Net + Clock + AllocGlobal>(rt: &R, proxy: SocketAddr) -> io::Result<Sockets> {
-    let alloc = rt.alloc();
-    let mut wire = Sockets::listen_by(rt, Vec::new(alloc))?;
-    let address = format!(in alloc; "{proxy}")?;
-    wire.resolve(rt, PROXY, address.as_bytes())?;
+// A wire for the servers and the clients, which has looked up the proxy at this address.
+fn far_wire<R: Net + Clock + AllocGlobal>(rt: &R, proxy: &str) -> io::Result<Sockets> {
+    let mut wire = Sockets::listen_by(rt, Vec::new(rt.alloc()))?;
+    wire.resolve(rt, proxy.as_bytes())?;
     Ok(wire)
 }
 
@@ -181,13 +179,16 @@ impl Ends {
         if flushes_new {
             empty_new(&mut proxy, first, addresses.len());
         }
-        let wire = far_wire(rt, proxy.wire().local_addr()?)?;
-        Ends::of(alloc, proxy, wire, servers, most)
+        let listens = proxy.wire().local_addr()?;
+        let address = format!(in alloc; "{listens}")?;
+        let wire = far_wire(rt, address.as_str())?;
+        Ends::of(alloc, proxy, address, wire, servers, most)
     }
 
     fn of(
         alloc: Global,
         proxy: ProxyEnd<Sockets>,
+        address: String,
         wire: Sockets,
         servers: ServerEnds,
         most: u32,
@@ -196,6 +197,7 @@ impl Ends {
         Ok(Ends {
             alloc,
             proxy,
+            address,
             wire,
             servers,
             clients,
@@ -252,7 +254,9 @@ impl Ends {
     fn load_next(&mut self, config: &Config) -> io::Result<Result<u32, ReloadFault>> {
         let addresses = self.servers.addresses()?;
         let config = config.copy(self.alloc)?;
-        match self.proxy.load(config, &addresses) {
+        // A script's servers have no limits of their own.
+        let usual = self.proxy.usual_limits();
+        match self.proxy.load(config, &addresses, usual, &Value::Null) {
             Ok(generation) => {
                 self.generation = generation;
                 Ok(Ok(generation))
@@ -332,7 +336,8 @@ impl Ends {
     // The client is connected.
     fn connect<N: Net>(&mut self, net: &N, place: usize) -> io::Result<()> {
         if let Some(client) = self.clients.get_mut(place) {
-            let end = ClientEnd::connect(net, self.alloc, &mut self.wire, place, PROXY)?;
+            let proxy = self.address.as_bytes();
+            let end = ClientEnd::connect(net, self.alloc, &mut self.wire, place, proxy)?;
             *client = Some(end);
         }
         Ok(())

@@ -20,7 +20,7 @@ pub enum Entry {
     Shown(Output),
     /// The configuration of a reload is in use, as this generation.
     Loaded(u32),
-    /// That of the reload of this number, counted from 0, isn't, and the tree in use is kept.
+    /// The configuration of the reload of this number, counted from 0, isn't in use, and the tree in use is kept.
     Kept(usize, ReloadFault),
 }
 

@@ -299,12 +299,12 @@ impl ServerEnds {
         self.calls.fail(turn, manner)
     }
 
-    /// This is lost just before the call of this turn from here.
+    /// What this loss names is lost just before the call of this turn from here.
     pub fn lose_at(&mut self, turn: u32, loss: Loss) -> Result<(), AllocError> {
         self.calls.lose_at(turn, loss)
     }
 
-    /// This is lost.
+    /// What this loss names is lost now.
     pub fn lose(&mut self, loss: Loss) {
         lose_all(&mut self.caches, [loss].as_slice());
     }
@@ -314,17 +314,17 @@ impl ServerEnds {
         self.moment = moment_of(seconds);
     }
 
-    /// How many of them were asked and didn't answer yet.
+    /// How many servers were asked and didn't answer yet.
     pub fn asked(&self) -> usize {
         self.ends.iter().filter(|end| end.is_asked()).count()
     }
 
-    /// The least of them that was asked and didn't answer yet.
+    /// The least number of a server that was asked and didn't answer yet.
     pub fn first_asked(&self) -> Option<usize> {
         self.ends.iter().position(|end| end.is_asked())
     }
 
-    /// Whether this one was asked and didn't answer yet.
+    /// Whether the server of this number was asked and didn't answer yet.
     pub fn is_asked(&self, at: usize) -> bool {
         match self.ends.get(at) {
             Some(end) => end.is_asked(),
@@ -332,7 +332,7 @@ impl ServerEnds {
         }
     }
 
-    /// The call that this one was asked is made. Whether it has failed already, so that the proxy's connection is to be dropped.
+    /// The call that the server of this number was asked is made. Whether it has failed already, so that the proxy's connection is to be dropped.
     pub fn make_call(&mut self, wire: &mut Sockets, at: usize) -> Result<bool, AllocError> {
         let failing = self.calls.begin(&mut self.caches);
         match (self.ends.get_mut(at), self.caches.get_mut(at)) {
@@ -341,7 +341,7 @@ impl ServerEnds {
         }
     }
 
-    /// One turn: what came is read, and what is to be sent is sent.
+    /// One turn of all servers: what came is read, and what is to be sent is sent.
     pub fn turn(&mut self, wire: &mut Sockets) -> Result<(), AllocError> {
         for at in 0..self.ends.len() {
             let read = self.read(wire, at)?;

@@ -1,26 +1,32 @@
 -- A turn and a load as what may be done to an end.
-use Rattle.std.proofs.Common.{◌≡◌, ℕ, Bool, true, false, List, [], ◌∷◌, Result, Ok, Err, refl, sym, ap, subst, Option, ◌∙◌, ⊎_elim, inl, inr, ◌⊎◌}
-use Rattle.std.specs.Prelude.{IfOk, IsTrue}
+use Rattle.std.proofs.Common.{◌≡◌, ℕ, zero, suc, Bool, true, false, List, [], ◌∷◌, ◌++◌, Result, Ok, Err, refl, sym, ap, subst, Option, Some, None, ◌∙◌, ⊎_elim, inl, inr, ◌⊎◌, append-nil, append_assoc}
+use Rattle.std.specs.Prelude.{IfOk, IsTrue, slice_get, map as each}
+use Rattle.std.specs.Option.{option_map}
+use Rattle.serde_json.specs.Data.{Data}
+use Rattle.serde_json.specs.Read.{read}
 use Rattle.route_json.specs.Servers.{Addresses}
 use Rattle.route_json.specs.Configuration.{Configuration}
 use Rattle.core_accepted.specs.declared.served.ServedCore.{ServedCore}
 use Rattle.serve_wire.specs.Events.{WireEvent}
+use Rattle.serve_links.specs.declared.link.Link.{Link}
+use Rattle.serve_links.specs.declared.settings.LinkLimits.{LinkLimits}
+use Rattle.serve_links.specs.declared.settings.Settings.{Settings}
 use Rattle.serve_links.specs.CoreSteps.{Step, Opened, NotOpened, Fed, Polled, Stopped, Settled, Gave, Closed, LeftLine, Broke, Ticked, Loaded, Linked, Asked, Greeted, Spelled, Late, CameLate, Lost, StepsAreOf, IsOfTurn}
-use Rattle.serve_links.specs.Story.{AnEnd, AllGo, AllGoFrom}
+use Rattle.serve_links.specs.Lateness.{usual_limits}
+use Rattle.serve_links.specs.Story.{AnEnd, AllGo, IsByLimit, most_of, texts_of, servers_of}
 use Rattle.serve_proxy.specs.declared.proxy.ProxyEnd.{ProxyEnd}
-use Rattle.serve_proxy.specs.Beginning.{LoadStops}
-use Rattle.serve_proxy.specs.Ends.{Stay, StayButLimits, AllGoOn, AllGrowFrom, AllGrow, IsLoadOf}
+use Rattle.serve_proxy.specs.declared.sockets.Sockets.{Sockets}
+use Rattle.serve_proxy.specs.Ends.{Stay, StayButLimits, end_of, AllGoOn, AllGrow, IsLoadOf, LinksLoad, AllLoad}
+use Rattle.serve_proxy.specs.Limiting.{value_limits, limits_by_text, text_limits, AreLimited}
 use Rattle.serve_proxy.proofs.Going.{still, and_then, stays, same_core as calls_still}
-use Rattle.serve_proxy.proofs.Growing.{grows, then_grows, limited_grows}
+use Rattle.serve_proxy.proofs.Growing.{grows, then_grows, limited_grows, of_none, load_none}
 use Rattle.serve_proxy.proofs.Staying.{stay_still}
-use Rattle.gate_check.specs.declared.reloading.ReloadFault.TheVariants.{NoMemory}
-use Rattle.core_accepted.specs.declared.loading.LoadFault.{LoadFault}
-use Rattle.core_accepted.specs.declared.loading.LoadFault.TheVariants.{Refused}
 use Rattle.core_accepted.specs.Loading.{IsLoaded}
 use Rattle.mcgate_serve.specs.declared.remembering.Kept.{Kept}
 use Rattle.mcgate_serve.specs.Remembers.{StandsIn, StandsIfLoaded}
 use Rattle.mcgate_serve.specs.InFleet.{StandsBeside, in_use_after}
 use Rattle.mcgate_serve.specs.Serves.{TextSaysAfter, MayLoad, MayLoadBeside, MayLoadText, LoadsOne, LoadsText, IsServeStep, proxy_of, GoesOnServing}
+use Rattle.mcgate_serve.specs.Limits.{IsTextLimit, call_limit, connect_limit, UsesText, UseTexts, KeepsToTexts, ServesByTexts, GoesOnFrom}
 
 false_true : false ≡ true → ⊥
 false_true e = cc
@@ -50,33 +56,188 @@ each_of_turn : (steps : List Step) → StepsAreOf IsOfTurn steps → StepsAreOf 
 each_of_turn [] kinds = tt
 each_of_turn (step ∷ steps) kinds = (of_turn step kinds.0, each_of_turn steps kinds.1)
 
+-- ---- the texts in use
+
+none_some : {A : Type 0} {x : A} → None ≡ Some x → ⊥
+none_some e = cc
+
+same_some : {A : Type 0} {x y : A} → Some x ≡ Some y → x ≡ y
+same_some e = cc
+
+-- names stay where others come behind them
+get_more : (xs ys : List (List ℕ)) (at : ℕ) (x : List ℕ) → slice_get xs at ≡ Some x → slice_get (xs ++ ys) at ≡ Some x
+get_more [] ys at x is = absurd (none_some is)
+get_more (y ∷ xs) ys zero x is = is
+get_more (y ∷ xs) ys (suc at) x is = get_more xs ys at x is
+
+uses_more : (usual : LinkLimits) (names more : List (List ℕ)) (before after : List ℕ) (step : Step) → UsesText usual names before after step → UsesText usual (names ++ more) before after step
+uses_more usual names more before after (Late at number limit now) u = (u.0, (u.1.0, get_more names more at u.1.0 u.1.1, u.1.2))
+uses_more usual names more before after (Loaded configuration generation) u = (u.0, u.1, (u.2.0 ++ more, ap (λ l. l ++ more) u.2.1 ∙ append_assoc configuration.servers u.2.0 more))
+uses_more usual names more before after (Opened client) u = u
+uses_more usual names more before after (NotOpened fault) u = u
+uses_more usual names more before after (Fed client piece) u = u
+uses_more usual names more before after (Polled client poll) u = u
+uses_more usual names more before after (Stopped client fault) u = u
+uses_more usual names more before after (Settled number outcome) u = u
+uses_more usual names more before after (Gave client bytes) u = u
+uses_more usual names more before after (Closed client) u = u
+uses_more usual names more before after (LeftLine client) u = u
+uses_more usual names more before after (Ticked now) u = u
+uses_more usual names more before after (Broke client) u = u
+uses_more usual names more before after (Linked at dialect) u = u
+uses_more usual names more before after (Asked at number dialect ask since) u = u
+uses_more usual names more before after (Greeted at dialect bytes) u = u
+uses_more usual names more before after (CameLate at number ask answer bytes) u = u
+uses_more usual names more before after (Spelled at number ask answer bytes) u = u
+uses_more usual names more before after (Lost at why limit) u = (u.0, (u.1.0, get_more names more at u.1.0 u.1.1, u.1.2))
+
+use_more : (usual : LinkLimits) (names more : List (List ℕ)) (first last : List ℕ) (steps : List Step) → UseTexts usual names first last steps → UseTexts usual (names ++ more) first last steps
+use_more usual names more first last [] u = u
+use_more usual names more first last (step ∷ steps) u = (u.0, uses_more usual names more u.0 last step u.1, use_more usual names more first u.0 steps u.2)
+
+-- one after another
+use_both : (usual : LinkLimits) (names : List (List ℕ)) (first mid last : List ℕ) (later earlier : List Step) → UseTexts usual names first mid earlier → UseTexts usual names mid last later → UseTexts usual names first last (later ++ earlier)
+use_both usual names first mid last [] earlier u v = subst (λ t. UseTexts usual names first t earlier) (sym v) u
+use_both usual names first mid last (step ∷ later) earlier u v = (v.0, v.1, use_both usual names first mid v.0 later earlier u v.2)
+
+-- the text's limit of a server
+has_limit :
+    (of : LinkLimits → ℕ) (usual : LinkLimits) (text : List ℕ) (servers : List (List ℕ × LinkLimits)) (at limit : ℕ) → AreLimited (text_limits usual text) servers → option_map of (most_of servers at) ≡ Some limit
+    → IsTextLimit of usual (each (λ (s : List ℕ × LinkLimits). s.0) servers) text at limit
+has_limit of usual text [] at limit limited most = absurd (none_some most)
+has_limit of usual text (server ∷ servers) zero limit limited most = (server.0, refl, sym (same_some most) ∙ ap of limited.0)
+has_limit of usual text (server ∷ servers) (suc at) limit limited most = has_limit of usual text servers at limit limited.1 most
+
+names_of : (links : List Link) → each (λ (s : List ℕ × LinkLimits). s.0) (servers_of links) ≡ texts_of links
+names_of [] = refl
+names_of (link ∷ links) = ap (λ l. link.text.items ∷ l) (names_of links)
+
+abbrev MayBe : LinkLimits → List (List ℕ) → List ℕ → (ℕ → Option LinkLimits) → Type 0
+MayBe usual names text most = (of : LinkLimits → ℕ) (at limit : ℕ) → option_map of (most at) ≡ Some limit → IsTextLimit of usual names text at limit
+
+-- a turn leaves it in use
+turn_uses : (usual : LinkLimits) (names : List (List ℕ)) (text : List ℕ) (most : ℕ → Option LinkLimits) → MayBe usual names text most → (step : Step) → IsOfTurn step → IsByLimit most step → UsesText usual names text text step
+turn_uses usual names text most may (Late at number limit now) is late = (refl, may call_limit at limit late)
+turn_uses usual names text most may (Loaded configuration generation) is late = absurd is
+turn_uses usual names text most may (Opened client) is late = refl
+turn_uses usual names text most may (NotOpened fault) is late = refl
+turn_uses usual names text most may (Fed client piece) is late = refl
+turn_uses usual names text most may (Polled client poll) is late = refl
+turn_uses usual names text most may (Stopped client fault) is late = refl
+turn_uses usual names text most may (Settled number outcome) is late = refl
+turn_uses usual names text most may (Gave client bytes) is late = refl
+turn_uses usual names text most may (Closed client) is late = refl
+turn_uses usual names text most may (LeftLine client) is late = refl
+turn_uses usual names text most may (Ticked now) is late = refl
+turn_uses usual names text most may (Broke client) is late = refl
+turn_uses usual names text most may (Linked at dialect) is late = refl
+turn_uses usual names text most may (Asked at number dialect ask since) is late = refl
+turn_uses usual names text most may (Greeted at dialect bytes) is late = refl
+turn_uses usual names text most may (CameLate at number ask answer bytes) is late = refl
+turn_uses usual names text most may (Spelled at number ask answer bytes) is late = refl
+turn_uses usual names text most may (Lost at why limit) is late = (refl, may connect_limit at limit late)
+
+turn_use : (usual : LinkLimits) (names : List (List ℕ)) (text : List ℕ) (most : ℕ → Option LinkLimits) → MayBe usual names text most → (steps : List Step) → StepsAreOf IsOfTurn steps → StepsAreOf (IsByLimit most) steps → UseTexts usual names text text steps
+turn_use usual names text most may [] kinds late = refl
+turn_use usual names text most may (step ∷ steps) kinds late = (text, turn_uses usual names text most may step kinds.0 late.0, turn_use usual names text most may steps kinds.1 late.1)
+
+-- ---- turns and loads
+
+turn_may : (usual : LinkLimits) (text : List ℕ) (old new : List Link) → AreLimited (text_limits usual text) (servers_of old) → servers_of new ≡ servers_of old → MayBe usual (texts_of new) text (most_of (servers_of old))
+turn_may usual text old new limited same of at limit most =
+    subst (λ names. IsTextLimit of usual names text at limit) (ap (each (λ (s : List ℕ × LinkLimits). s.0)) (sym same) ∙ names_of new) (has_limit of usual text (servers_of old) at limit limited most)
+
 -- a turn
-pub turned : {P Q : List Step → AnEnd → Type 0} {a b : AnEnd} → AllGoFrom P Q IsOfTurn a b → AllGrowFrom P Q IsServeStep a b
-turned g = grows (record { steps = g.steps; kinds = each_of_turn g.steps g.kinds; walks = g.walks; agree = g.agree; servers = g.servers })
+pub turned : {settings : Settings} {a b : AnEnd} → AllGo IsOfTurn a b → KeepsToTexts settings a b
+turned {settings} {a} {b} g = record {
+  serves = record { steps = g.steps; kinds = each_of_turn g.steps g.kinds; walks = g.walks; agree = g.agree; texts = (grows g).texts };
+  limits = λ text limited. (
+    text,
+    turn_use (usual_limits settings) (texts_of b.links) text (most_of (servers_of a.links)) (turn_may (usual_limits settings) text a.links b.links limited g.servers.same) g.steps g.kinds g.servers.late,
+    subst (AreLimited (text_limits (usual_limits settings) text)) (sym g.servers.same) limited,
+  );
+}
+
+-- one after another
+pub then_by : {settings : Settings} {a b c : AnEnd} → KeepsToTexts settings a b → KeepsToTexts settings b c → KeepsToTexts settings a c
+unfolding then_grows
+then_by {settings} {a} {b} {c} g k = record {
+  serves = then_grows g.serves k.serves;
+  limits = λ text limited.
+      let x = g.limits text limited in
+      let y = k.limits x.0 x.2 in (
+        y.0,
+        use_both (usual_limits settings) (texts_of c.links) text x.0 y.0 k.serves.steps g.serves.steps
+            (subst (λ names. UseTexts (usual_limits settings) names text x.0 g.serves.steps) (sym k.serves.texts.1) (use_more (usual_limits settings) (texts_of b.links) k.serves.texts.0 text x.0 g.serves.steps x.1)) y.1,
+        y.2,
+      );
+}
 
 -- nothing is done with the core, nor on any connection
 pub stays_on : {W : Type 0} {Is : Step → Type 0} (history : W → List WireEvent) (old new : ProxyEnd W) → new.core ≡ old.core → Stay history old.sockets new.sockets → AllGo Is (proxy_of history old) (proxy_of history new)
 stays_on history old new core ends = and_then (stays old.core.value ends) (calls_still (ap (λ c. c.value) core))
 
-pub stood : {W : Type 0} {Is : Step → Type 0} (history : W → List WireEvent) (old new : ProxyEnd W) → new.core ≡ old.core → Stay history old.sockets new.sockets → AllGrow Is (proxy_of history old) (proxy_of history new)
-stood history old new core ends = grows (stays_on history old new core ends)
+pub stood : {W : Type 0} {settings : Settings} (history : W → List WireEvent) (old new : ProxyEnd W) → new.core ≡ old.core → Stay history old.sockets new.sockets → KeepsToTexts settings (proxy_of history old) (proxy_of history new)
+stood history old new core ends = turned (stays_on history old new core ends)
 
--- the same where limits may have changed
-pub stood_but_limits : {W : Type 0} {Is : Step → Type 0} (history : W → List WireEvent) (old new : ProxyEnd W) → new.core ≡ old.core → StayButLimits history old.sockets new.sockets → AllGrow Is (proxy_of history old) (proxy_of history new)
-stood_but_limits history old new core ends = then_grows (limited_grows old.core.value ends) (grows (calls_still (ap (λ c. c.value) core)))
-
-pub same_end : {W : Type 0} (history : W → List WireEvent) (old new : ProxyEnd W) → new ≡ old → GoesOnServing history old new
-same_end history old new same = subst (λ x. GoesOnServing history old x) (sym same) (stood history old old refl (stay_still (history old.sockets.wire) old.sockets.clients old.sockets.links.all.items))
+pub same_end : {W : Type 0} {settings : Settings} (history : W → List WireEvent) (old new : ProxyEnd W) → new ≡ old → KeepsToTexts settings (proxy_of history old) (proxy_of history new)
+same_end {settings = settings} history old new same = subst (λ x. ServesByTexts history settings old x) (sym same) (stood history old old refl (stay_still (history old.sockets.wire) old.sockets.clients old.sockets.links.all.items))
 
 -- nothing is done at all
-pub serves_still : {W : Type 0} (history : W → List WireEvent) (end : ProxyEnd W) → GoesOnServing history end end
+pub serves_still : {W : Type 0} {settings : Settings} (history : W → List WireEvent) (end : ProxyEnd W) → KeepsToTexts settings (proxy_of history end) (proxy_of history end)
 serves_still history end = same_end history end end refl
 
 pub goes_still : {W : Type 0} (history : W → List WireEvent) (end : ProxyEnd W) → AllGoOn history end.core.value end.sockets end.core.value end.sockets
 goes_still history end = still
 
-pub from_end : {W : Type 0} (history : W → List WireEvent) (old mid new : ProxyEnd W) → mid ≡ old → GoesOnServing history mid new → GoesOnServing history old new
-from_end history old mid new same g = subst (λ x. GoesOnServing history x new) same g
+pub goes_same : {W : Type 0} (history : W → List WireEvent) (old mid new : ProxyEnd W) → new ≡ mid → AllGoOn history old.core.value old.sockets mid.core.value mid.sockets → AllGoOn history old.core.value old.sockets new.core.value new.sockets
+goes_same {W} history old mid new same g = subst (λ (x : ProxyEnd W). AllGoOn history old.core.value old.sockets x.core.value x.sockets) (sym same) g
+
+pub from_end : {W : Type 0} {settings : Settings} (history : W → List WireEvent) (old mid new : ProxyEnd W) → mid ≡ old → KeepsToTexts settings (proxy_of history mid) (proxy_of history new) → KeepsToTexts settings (proxy_of history old) (proxy_of history new)
+from_end {settings = settings} history old mid new same g = subst (λ x. ServesByTexts history settings x new) same g
+
+-- nothing is done with the core, nor on any connection, and limits may have changed
+limits_changed : {W : Type 0} (history : W → List WireEvent) (old new : ProxyEnd W) → new.core ≡ old.core → StayButLimits history old.sockets new.sockets → AllGrow (λ step. ⊥) (proxy_of history old) (proxy_of history new)
+limits_changed history old new core ends = then_grows (limited_grows old.core.value ends) (grows (calls_still (ap (λ c. c.value) core)))
+
+-- links have the limits of a text, and it serves from then on
+pub serves_from :
+    {W : Type 0} {settings : Settings} {text : List ℕ} {new : AnEnd} (history : W → List WireEvent) (old mid : ProxyEnd W) → mid.core ≡ old.core → StayButLimits history old.sockets mid.sockets
+    → AreLimited (text_limits (usual_limits settings) text) (servers_of mid.sockets.links.all.items) → KeepsToTexts settings (proxy_of history mid) new → GoesOnFrom settings text (proxy_of history old) new
+unfolding of_none then_grows
+serves_from {settings = settings} {text = text} {new = new} history old mid core ends limited g =
+    let y = g.limits text limited in
+    record { serves = then_grows (of_none (limits_changed history old mid core ends)) g.serves; limits = (y.0, use_both (usual_limits settings) (texts_of new.links) text text y.0 g.serves.steps [] refl y.1) }
+
+-- or nothing more is done
+pub serves_none : {W : Type 0} {settings : Settings} {text : List ℕ} (history : W → List WireEvent) (old new : ProxyEnd W) → new.core ≡ old.core → StayButLimits history old.sockets new.sockets → GoesOnFrom settings text (proxy_of history old) (proxy_of history new)
+unfolding of_none
+serves_none {text = text} history old new core ends = record { serves = of_none (limits_changed history old new core ends); limits = (text, refl) }
+
+-- what was read is what the text says
+pub limited_as :
+    (settings : Settings) (usual : LinkLimits) (text said : List ℕ) (value : Data) (links : List Link) → said ≡ text → read said ≡ Some value → usual ≡ usual_limits settings → AreLimited (value_limits usual value) (servers_of links)
+    → AreLimited (text_limits (usual_limits settings) text) (servers_of links)
+limited_as settings usual text said value links same reads is limited =
+    subst (λ t. AreLimited (text_limits (usual_limits settings) t) (servers_of links)) same
+    (subst (λ o. AreLimited (limits_by_text (usual_limits settings) o) (servers_of links)) (sym reads) (subst (λ u. AreLimited (value_limits u value) (servers_of links)) is limited))
+
+pub loads_by :
+    {W : Type 0} {history : W → List WireEvent} {configuration : Configuration} {servers : Addresses} {core core' : ServedCore} {old new : Sockets W} (limits usual : LinkLimits) (value : Data) → limits ≡ usual
+    → AllLoad history configuration servers (value_limits limits value) core old core' new → AllLoad history configuration servers (value_limits usual value) core old core' new
+loads_by {history = history} {configuration = configuration} {servers = servers} {core = core} {core' = core'} {old = old} {new = new} limits usual value same g = subst (λ u. AllLoad history configuration servers (value_limits u value) core old core' new) same g
+
+-- nothing is done, and then perhaps a configuration is loaded
+pub stay_loads :
+    {W : Type 0} {configuration : Configuration} {servers : Addresses} {limits : List ℕ → LinkLimits} {core : ServedCore} {new : Sockets W} (history : W → List WireEvent) (old mid : ProxyEnd W) → mid.core ≡ old.core → Stay history old.sockets mid.sockets
+    → AllLoad history configuration servers limits mid.core.value mid.sockets core new → AllLoad history configuration servers limits old.core.value old.sockets core new
+unfolding of_none then_grows
+stay_loads {configuration = configuration} history old mid same ends g =
+    let s : AllGo (λ step. ⊥) (proxy_of history old) (proxy_of history mid) = stays_on history old mid same ends in
+    record {
+      grows = then_grows (of_none (grows s)) g.grows;
+      links = ⊎_elim (λ k. inl (append-nil g.grows.steps ∙ k.0, k.1 ∙ s.servers.same)) (λ k. inr (k.0, append-nil g.grows.steps ∙ k.1, k.2, k.3)) g.links;
+    }
 
 -- it is the same end
 pub same_box : {W : Type 0} (old new : ProxyEnd W) → new ≡ old → new.core ≡ old.core
@@ -96,8 +257,8 @@ pub stays_same : {W : Type 0} (history : W → List WireEvent) (old new : ProxyE
 stays_same history old new same = stayed history old old new same (stays_still history old)
 
 -- it wasn't loaded
-pub not_loaded : (old mid new : ServedCore) (configuration : Configuration) (fault : LoadFault) → mid ≡ old → LoadStops mid configuration fault new → (fault ≡ Refused NoMemory → ⊥) → new ≡ old
-not_loaded old mid new configuration fault same stops other = ⊎_elim (λ e. e ∙ same) (λ h. absurd (other h.0)) stops
+pub not_loaded : (old mid new : ServedCore) → mid ≡ old → new ≡ mid → new ≡ old
+not_loaded old mid new same kept = kept ∙ same
 
 -- the text stands in the history's file, also after a load that leaves the history as it was
 pub stands_still : (a b : ServedCore) (memory after : Option Kept) (text : List ℕ) → after ≡ memory → StandsIn memory text → StandsIfLoaded a b after text
@@ -114,12 +275,22 @@ stands_unused a b memory text false none or = ⊎_elim (λ e. absurd (false_true
 stands_unused a b memory text true none or = absurd (false_true (sym none))
 
 -- a load of what a text says
-pub loaded : (servers : Addresses) (text : List ℕ) (configuration : Configuration) {a b : AnEnd} → TextSaysAfter servers text configuration → AllGrow (IsLoadOf configuration) a b → AllGrow IsServeStep a b
-loaded servers text configuration says g = record { steps = g.steps; kinds = each g.steps g.kinds; walks = g.walks; agree = g.agree; texts = g.texts }
+pub loaded :
+    {W : Type 0} {history : W → List WireEvent} {settings : Settings} {core core' : ServedCore} {old new : Sockets W} (before servers : Addresses) (text : List ℕ) (configuration : Configuration) (value : Data) → TextSaysAfter before text configuration → servers ≡ configuration.servers → read text ≡ Some value
+    → AllLoad history configuration servers (value_limits (usual_limits settings) value) core old core' new → KeepsToTexts settings (end_of history core old) (end_of history core' new)
+loaded {settings = settings} {old = old} {new = new} before servers text configuration value says named reads g = record {
+  serves = record { steps = g.grows.steps; kinds = kinds_of g.grows.steps g.grows.kinds; walks = g.grows.walks; agree = g.grows.agree; texts = g.grows.texts };
+  limits = λ t limited. by t limited g.links;
+}
   where
-    each : (steps : List Step) → StepsAreOf (IsLoadOf configuration) steps → StepsAreOf IsServeStep steps
-    each [] kinds = tt
-    each (step ∷ steps) kinds = (subst IsServeStep (sym kinds.0.1) (servers, text, says), each steps kinds.1)
+    kinds_of : (steps : List Step) → StepsAreOf (IsLoadOf configuration) steps → StepsAreOf IsServeStep steps
+    kinds_of [] kinds = tt
+    kinds_of (step ∷ steps) kinds = (subst IsServeStep (sym kinds.0.1) (before, text, says), kinds_of steps kinds.1)
+
+    by : (t : List ℕ) → AreLimited (text_limits (usual_limits settings) t) (servers_of old.links.all.items) → LinksLoad configuration servers (value_limits (usual_limits settings) value) g.grows.steps old.links.all.items new.links.all.items
+        → (last : List ℕ) × UseTexts (usual_limits settings) (texts_of new.links.all.items) t last g.grows.steps × AreLimited (text_limits (usual_limits settings) last) (servers_of new.links.all.items)
+    by t limited (inl k) = (t, subst (UseTexts (usual_limits settings) (texts_of new.links.all.items) t t) (sym k.0) refl, subst (AreLimited (text_limits (usual_limits settings) t)) (sym k.1) limited)
+    by t limited (inr k) = (text, subst (UseTexts (usual_limits settings) (texts_of new.links.all.items) t text) (sym k.1) (t, (before, says, ([], k.3 ∙ named ∙ sym (append-nil configuration.servers))), refl), subst (λ o. AreLimited (limits_by_text (usual_limits settings) o) (servers_of new.links.all.items)) (sym reads) k.2)
 
 -- nothing is done
 pub loads_still : (used : Option Configuration) (servers : Addresses) (text : List ℕ) (core : ServedCore) → LoadsText used used servers text core core
@@ -156,8 +327,8 @@ may_load_beside used configuration a b beside may = ⊎_elim (λ e. inl e) (λ l
 pub loads_none : (configuration : Configuration) (used : Option Configuration) (core : ServedCore) → LoadsOne false configuration used used core core
 loads_none configuration used core = (refl, refl)
 
-pub load_still : {W : Type 0} (history : W → List WireEvent) (configuration : Configuration) (end : ProxyEnd W) → AllGrow (IsLoadOf configuration) (proxy_of history end) (proxy_of history end)
-load_still history configuration end = stood history end end refl (stay_still (history end.sockets.wire) end.sockets.clients end.sockets.links.all.items)
+pub load_still : {W : Type 0} (history : W → List WireEvent) (configuration : Configuration) (servers : Addresses) (limits : List ℕ → LinkLimits) (end : ProxyEnd W) → AllLoad history configuration servers limits end.core.value end.sockets end.core.value end.sockets
+load_still history configuration servers limits end = load_none end.sockets refl
 
 -- it was loaded, and is in use
 pub loads_next :

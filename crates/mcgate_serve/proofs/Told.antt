@@ -24,6 +24,7 @@ tells_tally tally numbers families has tell =
           subst
           (λ n. IsAmong (Tells (codes "mcgate_client_connections_total") (one_labelled (codes "verdict") (codes "accepted") tally.opened ∷ one_labelled (codes "verdict") (codes "refused") n ∷ [])) families)
           has.refused opened;
+      bad_messages = subst (λ n. IsAmong (Tells (codes "mcgate_bad_messages_total") (([], Count n) ∷ [])) families) has.bad_messages tell.messages;
       commands = subst (λ l. IsAmong (Tells (codes "mcgate_commands_total") l) families) has.commands tell.commands;
       made = subst (λ n. IsAmong (Tells (codes "mcgate_calls_made_total") (([], Count n) ∷ [])) families) has.made tell.calls.0;
       ended =

@@ -10,7 +10,7 @@ use Rattle.mcgate_serve.specs.declared.emptying.Emptying.{Emptying}
 abbrev pub is_among : List ℕ → Addresses → Bool
 is_among name names = list_any (λ known. bytes_eq known name) names
 
--- the name of the server of this number is
+-- the name of the server of this number is one of these
 abbrev pub IsNamedAt : Addresses → Addresses → ℕ → Type 0
 IsNamedAt names servers at = (name : List ℕ) × (slice_get servers at ≡ Some name) × (is_among name names ≡ true)
 

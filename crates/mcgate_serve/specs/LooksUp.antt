@@ -8,6 +8,6 @@ use Rattle.route_json.specs.Servers.{Addresses}
 abbrev pub AreLookedUp : ℕ → Addresses → List WireEvent → Type 0
 AreLookedUp from servers h = (at : ℕ) (text : List ℕ) → from ≤ at → slice_get servers at ≡ Some text → HasHappened (looks_up text) h
 
--- so it is with those before another number
+-- from the server of this number on, each one's text was asked for, up to the one before another number
 abbrev pub AreLookedUpTo : (from to : ℕ) → Addresses → List WireEvent → Type 0
 AreLookedUpTo from to servers h = (at : ℕ) (text : List ℕ) → from ≤ at → at < to → slice_get servers at ≡ Some text → HasHappened (looks_up text) h

@@ -11,7 +11,7 @@ abbrev pub StandsIn : Option Kept → List ℕ → Type 0
 StandsIn (Some kept) text = StandsInHistory kept.file.text text
 StandsIn None text = Unit {0}
 
--- so does a text that wasn't refused
+-- a text that wasn't refused stands where a history is kept
 abbrev pub MayStand : Remembering → Option Kept → List ℕ → Type 0
 MayStand outcomes.Refused memory text = Unit {0}
 MayStand (outcomes.Stands old) memory text = StandsIn memory text

@@ -59,7 +59,7 @@ LoadsBeside used configuration old new = StandsBeside used configuration × ((ge
 abbrev pub MayLoadBeside : (used : Option Configuration) → Configuration → ServedCore → ServedCore → Type 0
 MayLoadBeside used configuration old new = (new ≡ old) ⊎ LoadsBeside used configuration old new
 
--- the same of the configuration that this text says
+-- nothing is done, or the configuration that this text says is loaded, in a fleet beside the one that was in use
 abbrev pub MayLoadText : (used : Option Configuration) → Addresses → List ℕ → ServedCore → ServedCore → Type 0
 MayLoadText used servers text old new = (new ≡ old) ⊎ ((configuration : Configuration) × TextSaysAfter servers text configuration × LoadsBeside used configuration old new)
 

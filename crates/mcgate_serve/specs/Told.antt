@@ -10,7 +10,7 @@ use Rattle.watch_admin.specs.declared.families.Family.{Family}
 use Rattle.watch_admin.specs.declared.numbers.Numbers.{Numbers}
 use Rattle.watch_admin.specs.Prometheus.{families_text}
 use Rattle.watch_admin.specs.Json.{object_json}
-use Rattle.watch_admin.specs.Told.{Labelled, Tells, IsAmong, TellsClients, TellsCommands, TellsCalls, one_labelled, command_count, command_counts}
+use Rattle.watch_admin.specs.Told.{Labelled, Tells, IsAmong, TellsClients, TellsMessages, TellsCommands, TellsCalls, one_labelled, command_count, command_counts}
 
 -- how many commands of an operation have ended with each kind of reply
 abbrev pub op_counts : CoreTally → Op → List Labelled
@@ -24,6 +24,7 @@ op_counts tally op =
 -- some families tell of these numbers, and the text is theirs, in Prometheus' format or in JSON
 pub record FamiliesTell (numbers : Numbers) (families : List Family) : Type 0 where
   pub clients : TellsClients numbers.clients families
+  pub messages : TellsMessages numbers.clients families
   pub commands : TellsCommands numbers.commands.items families
   pub calls : TellsCalls numbers.calls families
 
@@ -37,12 +38,13 @@ IsInJson numbers text = (families : List Family) × FamiliesTell numbers familie
 pub record HasTally (tally : CoreTally) (numbers : Numbers) : Type 0 where
   pub opened : numbers.clients.accepted ≡ tally.opened
   pub refused : numbers.clients.refused ≡ tally.refused
+  pub bad_messages : numbers.clients.bad_messages ≡ tally.bad_messages
   pub commands : flat_map command_counts numbers.commands.items ≡ flat_map (op_counts tally) all_ops
   pub made : numbers.calls.made ≡ tally.calls
   pub answered : numbers.calls.answered ≡ tally.answered
   pub failed : numbers.calls.failed ≡ tally.failed
 
--- what the core counts stands at its names: clients that came, commands that have ended, and calls
+-- what the core counts stands at its names: clients that came, messages that were refused, commands that have ended, and calls
 pub record TellsTally (tally : CoreTally) (families : List Family) : Type 0 where
   pub clients :
       IsAmong
@@ -50,6 +52,7 @@ pub record TellsTally (tally : CoreTally) (families : List Family) : Type 0 wher
       (codes "mcgate_client_connections_total")
       (one_labelled (codes "verdict") (codes "accepted") tally.opened ∷ one_labelled (codes "verdict") (codes "refused") tally.refused ∷ []))
       families
+  pub bad_messages : IsAmong (Tells (codes "mcgate_bad_messages_total") (([], Count tally.bad_messages) ∷ [])) families
   pub commands : IsAmong (Tells (codes "mcgate_commands_total") (flat_map (op_counts tally) all_ops)) families
   pub made : IsAmong (Tells (codes "mcgate_calls_made_total") (([], Count tally.calls) ∷ [])) families
   pub ended :

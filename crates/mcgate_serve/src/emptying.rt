@@ -25,7 +25,7 @@ pub struct Emptying {
     names: Vec<String>,
     // What the file had when it was read or written last.
     written: String,
-    // Whether servers that a reload brings are.
+    // Whether servers that a reload brings are to be emptied.
     flushes_new: bool,
 }
 
@@ -106,7 +106,7 @@ fn is_due<W: Wire>(end: &ProxyEnd<W>, servers: &Servers, name: &str) -> bool {
 }
 
 impl Emptying {
-    /// Those of whom it isn't known, as the run before left them: none where there was none, or no history is kept.
+    /// The servers that are still to be emptied, as the run before left them: none where there was none, or no history is kept.
     pub fn read<R: Files + Input + AllocGlobal>(
         rt: &R,
         history: Option<&str>,
@@ -150,7 +150,7 @@ impl Emptying {
         Ok(())
     }
 
-    // So is the server of this name, which isn't written yet.
+    // The server of this name is to be emptied, which isn't written yet.
     fn note(&mut self, alloc: Global, name: &str) -> Result<(), AllocError> {
         if !has(&self.names, name) {
             self.names.push(String::from_str(alloc, name)?)?;
@@ -158,13 +158,13 @@ impl Emptying {
         Ok(())
     }
 
-    /// So is the server of this name. The file has it before it is used.
+    /// The server of this name is to be emptied. The file has it before it is used.
     pub fn add_one<R: Files + AllocGlobal>(&mut self, rt: &R, name: &str) -> io::Result<()> {
         self.note(rt.alloc(), name)?;
         self.write(rt)
     }
 
-    /// So are these servers from this number on. The file has them before they are used.
+    /// These servers from this number on are to be emptied. The file has them before they are used.
     pub fn add<R: Files + AllocGlobal>(
         &mut self,
         rt: &R,
@@ -179,7 +179,8 @@ impl Emptying {
         self.write(rt)
     }
 
-    /// So are the servers that a text's configuration has behind these, if it says one, and if they are to be.
+    /// The servers that a text's configuration has behind these, if it says one, are to be emptied, where that is so of all that a reload brings. The file
+    /// has them before they are used.
     pub fn add_of<R: Files + AllocGlobal>(
         &mut self,
         rt: &R,
@@ -195,7 +196,7 @@ impl Emptying {
         }
     }
 
-    /// The number of the first of them among these servers from this number on.
+    /// The number of the first of these servers, from this number on, that is named as one to be emptied.
     pub fn next(&self, servers: &Servers, from: usize) -> Option<usize>
         ensures { IfSome result (IsNamedAt (texts self.now.names.items) servers.now) }
     {
@@ -209,7 +210,7 @@ impl Emptying {
         None
     }
 
-    /// Those that were emptied are named no longer.
+    /// Servers that were emptied are named no longer.
     pub fn settle<R: Files + AllocGlobal, W: Wire>(
         &mut self,
         rt: &R,

@@ -3,17 +3,21 @@
 #![tactic(auto)]
 
 mod bad_texts;
+pub mod build;
+mod client_news;
 pub mod controlling;
 mod draining;
 mod emptying;
+pub mod events;
 pub mod folders;
 pub mod histories;
 mod input_end;
-mod limits;
 pub mod lines;
 pub mod listens;
+mod name_news;
 pub mod names;
 mod outages;
+mod process_news;
 mod remembering;
 pub mod seen;
 mod server_news;
@@ -21,4 +25,5 @@ pub mod serving;
 pub mod special;
 pub mod started;
 pub mod starting;
+mod verdict_news;
 pub mod watching;

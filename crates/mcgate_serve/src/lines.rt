@@ -1,6 +1,7 @@
 //! Lines of a proxy that runs: each is written where that doesn't wait, and is lost and counted where it would, so that nothing that
 //! becomes of its outputs stops it.
 
+use crate::events::{Event, Field, InJson, InWords, Subject};
 use libc::net::{POLLOUT, poll};
 use libc::types::pollfd;
 use mcgate_args::log_arguments::{Level, Log};
@@ -8,8 +9,10 @@ use std::alloc::{AllocError, Global};
 use std::fmt::Display;
 use std::rt::Clock;
 use std::time::{SystemTime, UNIX_EPOCH};
-use watch_admin::quoted::Quoted;
 use watch_admin::times::UtcTime;
+
+// So many bytes a pipe takes at once, if it takes any: a line that has more with its end could wait.
+const PIPE: usize = 4_096;
 
 // An output of the program.
 #[derive(Clone, Copy)]
@@ -26,7 +29,7 @@ impl Output {
         }
     }
 
-    // Whether the system takes a line now, or refuses it at once. A pipe that does takes 4,096 bytes, and a line has fewer.
+    // Whether the system takes a line now, or refuses it at once. A pipe that does takes 4,096 bytes.
     fn is_ready(self) -> bool {
         let mut asked = [pollfd {
             fd: self.descriptor(),
@@ -109,22 +112,23 @@ impl Lines {
         }
     }
 
-    // A line with its time and level.
+    // A line with its time and level, as words or in JSON.
     fn timed<D: Display + Drop>(
         &self,
         log: Log,
-        level: Level,
+        event: Event<'_>,
         line: D,
     ) -> Result<String, AllocError> {
         let told = format!(in self.alloc; "{line}")?;
-        let told = told.strip_prefix("mcgate: ").unwrap_or(told.as_str());
-        let (time, word) = (UtcTime(self.now), level.word());
+        let text = told.strip_prefix("mcgate: ").unwrap_or(told.as_str());
+        let (time, level) = (UtcTime(self.now), event.level().word());
         if !log.json {
-            return format!(in self.alloc; "{time} {word} {told}");
+            let words = InWords { event, text };
+            return format!(in self.alloc; "{time} {level} {words}");
         }
-        let begin = format!(in self.alloc; "{{\"time\":\"{time}\",\"level\":\"{word}\"")?;
-        let told = Quoted(told);
-        format!(in self.alloc; "{begin},\"line\":{told}}}")
+        let begin = format!(in self.alloc; "{{\"time\":\"{time}\",\"level\":\"{level}\"")?;
+        let more = InJson { event, text };
+        format!(in self.alloc; "{begin}{more}}}")
     }
 
     // Notes what became of a line.
@@ -135,15 +139,15 @@ impl Lines {
     }
 
     // Writes a line, if it is told. Whether it is lost.
-    fn loses<R: Eprint, D: Display + Drop>(&self, rt: &R, level: Level, line: D) -> bool {
+    fn loses<R: Eprint, D: Display + Drop>(&self, rt: &R, event: Event<'_>, line: D) -> bool {
         let Some(log) = self.log else {
             return rt.eprintln(line).is_err();
         };
-        if !level.is_within(log.level) {
+        if !event.level().is_within(log.level) {
             return false;
         }
-        match self.timed(log, level, line) {
-            Ok(text) => rt.eprintln(text.as_str()).is_err(),
+        match self.timed(log, event, line) {
+            Ok(text) => text.len() >= PIPE || rt.eprintln(text.as_str()).is_err(),
             Err(_) => true,
         }
     }
@@ -155,26 +159,18 @@ impl Lines {
         }
         let lost = self.lost;
         let line = format_args!("mcgate: {lost} lines could not be written before");
-        if !self.loses(rt, Level::Warn, line) {
+        let fields = [Field::event("lost_lines"), Field::count("count", lost)];
+        if !self.loses(rt, Event::error(Subject::Process, &fields), line) {
             self.lost_before = self.lost();
             self.lost = 0;
         }
     }
 
-    fn tell_at<R: Eprint, D: Display + Drop>(&mut self, rt: &R, level: Level, line: D) {
+    /// A line for standard error, which tells this. Where lines have a level, what it tells is written with it, if that is urgent enough.
+    pub fn tell<R: Eprint, D: Display + Drop>(&mut self, rt: &R, event: Event<'_>, line: D) {
         self.tell_lost(rt);
-        let is_lost = !Output::Error.is_ready() || self.loses(rt, level, line);
+        let is_lost = !Output::Error.is_ready() || self.loses(rt, event, line);
         self.note(!is_lost);
-    }
-
-    /// A line for standard error.
-    pub fn tell<R: Eprint, D: Display + Drop>(&mut self, rt: &R, line: D) {
-        self.tell_at(rt, Level::Info, line);
-    }
-
-    /// One that somebody should see.
-    pub fn warn<R: Eprint, D: Display + Drop>(&mut self, rt: &R, line: D) {
-        self.tell_at(rt, Level::Warn, line);
     }
 
     /// Lines for standard output, each with its end.

@@ -33,7 +33,7 @@ pub fn follows(begun: Beginnings, any: bool, fleet: bool, lead: Lead) -> bool
     }
 }
 
-// The same where it leads to another machine.
+// Whether calls go to another machine from now on, where a server's name leads there.
 fn follows_other(added: Beginning, any: bool, fleet: bool) -> bool
     ensures { result ≡ follows added any fleet Other }
 {
@@ -61,7 +61,8 @@ fn is_fixed(address: &str) -> bool {
     }
 }
 
-// So is that of the server of this number.
+// Whether the address of the server of this number is a path, or has a machine's number, so that nobody is asked where it leads; also where there is no
+// such server.
 fn is_fixed_at(servers: &Servers, at: usize) -> bool {
     match text_at(servers, at) {
         Some(text) => is_fixed(address_in(text)),
@@ -105,7 +106,7 @@ pub struct Names {
 }
 
 impl Names {
-    /// Those of these servers, which were looked up when the clock showed 0.
+    /// The names of these servers, which were looked up when the clock showed 0.
     pub fn of(alloc: Global, servers: &Servers) -> Names {
         let mut names = Names {
             all: Vec::new(alloc),
@@ -148,7 +149,7 @@ impl Names {
         (first, from)
     }
 
-    // That one, if it is due by now.
+    // The one that is due first, if it is due by now.
     fn first_by(&mut self, now: u64, every: u64) -> Option<usize> {
         let (at, from) = self.first(every);
         self.due_from = from;
@@ -173,7 +174,7 @@ impl Names {
         }
     }
 
-    /// Whether it failed since its name was looked up.
+    /// Whether the connection of this server failed since its name was looked up.
     pub fn has_failed(&self, at: usize) -> bool {
         match self.all.get(at) {
             Some(name) => name.has_failed,
@@ -181,7 +182,7 @@ impl Names {
         }
     }
 
-    /// It is looked up now, or needn't be.
+    /// The name of this server is looked up now, or needn't be.
     pub fn note_looked(&mut self, at: usize, now: u64) {
         if let Some(name) = self.all.get_mut(at) {
             name.looked = now;
@@ -189,13 +190,13 @@ impl Names {
         }
     }
 
-    /// That took so many milliseconds, in which nothing else was done: so there is no other look-up for a while.
+    /// A look-up took so many milliseconds, in which nothing else was done: so there is no other one for a while.
     pub fn note_took(&mut self, now: u64, took: u64) {
         let rest = took.min(LONGEST_MS).saturating_mul(REST);
         self.rests_until = now.saturating_add(took).saturating_add(rest);
     }
 
-    /// Whether it is told now that it isn't followed.
+    /// Whether it is told now of this server that its name isn't followed; if so, it isn't told again for a while.
     pub fn may_tell(&mut self, at: usize, now: u64) -> bool {
         match self.all.get_mut(at) {
             Some(name) if now < name.quiet_until => false,

@@ -10,7 +10,7 @@ use sha2::{Digest, Sha256};
 use std::alloc::{AllocError, Global};
 use watch_admin::numbers::{ConfigNumbers, RefusalNumbers};
 
-// Of clients that were turned away is told once in so many milliseconds.
+// Of clients that were turned away is told once in so many milliseconds, and of connections that could not be accepted.
 const QUIET_MS: u64 = 60_000;
 
 /// What went wrong last at a server.
@@ -59,6 +59,31 @@ struct Name {
     is_unknown: bool,
 }
 
+// How much of a count was told, and from when on more of it may be, in milliseconds.
+#[derive(Clone, Copy)]
+struct QuietCount {
+    count: u64,
+    from: u64,
+}
+
+impl QuietCount {
+    // Nothing of it.
+    fn new() -> QuietCount {
+        QuietCount { count: 0, from: 0 }
+    }
+
+    // By how much it has grown to this since it was told last, if that is to be told now.
+    fn next(&mut self, count: u64, now: u64) -> Option<u64> {
+        if count <= self.count || now < self.from {
+            return None;
+        }
+        let grown = count - self.count;
+        self.count = count;
+        self.from = now.saturating_add(QUIET_MS);
+        Some(grown)
+    }
+}
+
 /// What is counted and kept of a proxy that runs, besides what its end counts.
 #[derive(Drop)]
 pub struct Seen {
@@ -73,9 +98,9 @@ pub struct Seen {
     names: Vec<Name>,
     // What went wrong last at each server, by its number.
     failures: Vec<Option<LastFailure>>,
-    // How many clients that were turned away were told, and from when on more may be.
-    refused_told: u64,
-    refused_from: u64,
+    // Of clients that were turned away, and of connections that could not be accepted.
+    refused: QuietCount,
+    unaccepted: QuietCount,
 }
 
 impl Seen {
@@ -93,8 +118,8 @@ impl Seen {
             is_unread: false,
             names: Vec::new(alloc),
             failures: Vec::new(alloc),
-            refused_told: 0,
-            refused_from: 0,
+            refused: QuietCount::new(),
+            unaccepted: QuietCount::new(),
         }
     }
 
@@ -205,12 +230,11 @@ impl Seen {
 
     /// How many clients were turned away since that was told last, of so many in all, if that is to be told now.
     pub fn next_refused(&mut self, refused: u64, now: u64) -> Option<u64> {
-        if refused <= self.refused_told || now < self.refused_from {
-            return None;
-        }
-        let count = refused - self.refused_told;
-        self.refused_told = refused;
-        self.refused_from = now.saturating_add(QUIET_MS);
-        Some(count)
+        self.refused.next(refused, now)
+    }
+
+    /// How often the system refused to accept a connection since that was told last, of so often in all, if that is to be told now.
+    pub fn next_unaccepted(&mut self, unaccepted: u64, now: u64) -> Option<u64> {
+        self.unaccepted.next(unaccepted, now)
     }
 }

@@ -1,5 +1,7 @@
-//! What is told of a server's link, in words.
+//! What is told of a server's link, in words and by keys.
 
+use crate::events::{Event, Field, Subject};
+use crate::lines::Lines;
 use serve_links::{Cause, LinkNews};
 use std::fmt;
 use std::fmt::Display;
@@ -28,5 +30,51 @@ impl Display for ServerNews {
             }
             (news, _) => news.fmt(f),
         }
+    }
+}
+
+// Tells that it failed.
+fn tell_failed<R: Eprint>(
+    rt: &R,
+    lines: &mut Lines,
+    server: &str,
+    cause: Cause,
+    times: u32,
+    told: ServerNews,
+) {
+    let fields = [
+        Field::text("server", server),
+        Field::event("failed"),
+        Field::text("cause", cause.name()),
+        Field::count("in_a_row", u64::from(times)),
+    ];
+    let line = format_args!("mcgate: server {server}: {told}");
+    lines.tell(rt, Event::warn(Subject::Server, &fields), line);
+}
+
+// Tells anything else.
+fn tell_other<R: Eprint>(
+    rt: &R,
+    lines: &mut Lines,
+    server: &str,
+    event: &'static str,
+    told: ServerNews,
+) {
+    let fields = [Field::text("server", server), Field::event(event)];
+    let event = match told.news {
+        LinkNews::Opened => Event::debug(Subject::Server, &fields),
+        LinkNews::Back => Event::info(Subject::Server, &fields),
+        LinkNews::Failed(_, _) | LinkNews::Late => Event::warn(Subject::Server, &fields),
+    };
+    lines.tell(rt, event, format_args!("mcgate: server {server}: {told}"));
+}
+
+/// Tells it of this server.
+pub fn tell_server<R: Eprint>(rt: &R, lines: &mut Lines, server: &str, told: ServerNews) {
+    match told.news {
+        LinkNews::Failed(cause, times) => tell_failed(rt, lines, server, cause, times, told),
+        LinkNews::Late => tell_other(rt, lines, server, "late", told),
+        LinkNews::Opened => tell_other(rt, lines, server, "connected", told),
+        LinkNews::Back => tell_other(rt, lines, server, "back", told),
     }
 }

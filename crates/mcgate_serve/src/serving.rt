@@ -1,39 +1,48 @@
 //! A proxy that runs: its turns, what is told of its servers, and the configurations that are loaded meanwhile.
 
-ghost use Rattle.std.specs.Prelude.{◌≡◌, ◌≢◌, ◌⊎◌, ◌≤◌, true, false, IsTrue, IfOk, IfSome, OnOk, string_bytes, ℕ, List, Some, ◌∷◌, length, slice_get};
+ghost use Rattle.std.specs.Prelude.{◌≡◌, ◌⊎◌, ◌≤◌, true, false, IsTrue, IfOk, IfSome, OnOk, string_bytes, ℕ, List, Some, ◌∷◌, length, slice_get};
 ghost use Rattle.serve_wire.specs.Events.{looks_up};
 ghost use Rattle.serve_wire.specs.declared.outcomes.Lead.TheVariants.{Other};
-ghost use Rattle.serve_links.specs.Story.{HasHappened};
-ghost use Rattle.core_accepted.specs.declared.loading.LoadFault.TheVariants.{Refused};
-ghost use Rattle.gate_check.specs.declared.reloading.ReloadFault.TheVariants.{NoMemory};
-ghost use Rattle.serve_proxy.specs.Ends.{Stay, StayButLimits, AllGoOn, AllGrow, IsLoadOf};
+ghost use Rattle.serve_links.specs.Story.{HasHappened, servers_of};
+ghost use Rattle.serve_links.specs.Lateness.{usual_limits};
+ghost use Rattle.serde_json.specs.Read.{read};
+ghost use Rattle.serde_json.specs.View.{view};
+ghost use Rattle.serve_proxy.specs.Ends.{Stay, StayButLimits, AllGoOn, AllLoad};
+ghost use Rattle.serve_proxy.specs.Limiting.{value_limits, text_limits, AreLimited};
 ghost use Rattle.core_accepted.specs.Logs.{TreesAreSound};
 ghost use Rattle.serve_proxy.specs.LogsGoOn.{LogsAreFresh};
 ghost use Rattle.serve_proxy.specs.Stalls.{held_by_all};
 ghost use Rattle.core_accepted.specs.Loading.{IsLoaded};
-ghost use Rattle.mcgate_serve.specs.Serves.{TextSaysAfter, proxy_of, GoesOnServing, MayLoad, MayLoadBeside, MayLoadText, LoadsOne, LoadsText};
+ghost use Rattle.mcgate_serve.specs.Serves.{TextSaysAfter, MayLoad, MayLoadBeside, MayLoadText, LoadsOne, LoadsText};
+ghost use Rattle.mcgate_serve.specs.Limits.{ServesByTexts, ServesFrom};
 ghost use Rattle.mcgate_serve.specs.InFleet.{StandsBeside, in_use_after};
 ghost use Rattle.mcgate_serve.specs.Remembers.{StandsIn, StandsIfLoaded};
 ghost use Rattle.mcgate_serve.specs.LooksUp.{AreLookedUp};
 ghost use Rattle.mcgate_serve.specs.Emptied.{IsDueAt, EmptiesOnly, FlushesAt};
 ghost use Rattle.mcgate_serve.specs.Names.{follows};
 
-use crate::bad_texts::{say_all, say_why};
+use crate::bad_texts::{say_unread, say_why};
+use crate::client_news::{tell_refused, tell_stalled, tell_unaccepted};
 use crate::controlling::Controlling;
 use crate::draining::Draining;
 use crate::emptying::Emptying;
 use crate::histories::input_of;
 use crate::input_end::InputEnd;
-use crate::limits::own_limits;
 use crate::lines::{Lines, unix_millis};
 use crate::listens::Listens;
+use crate::name_news::{NameNews, tell_name};
 use crate::names::{Names, follows};
 use crate::outages::Outages;
+use crate::process_news::{
+    tell_control, tell_drained, tell_draining, tell_if_any, tell_if_giving_up, tell_if_new,
+    tell_metrics, tell_serving, tell_unwatched,
+};
 use crate::remembering::{Kept, Remembering, forget, remember, tell_unwritten};
 use crate::seen::Seen;
-use crate::server_news::ServerNews;
+use crate::server_news::{ServerNews, tell_server};
 use crate::special::{is_special, special_line};
 use crate::started::Started;
+use crate::verdict_news::tell_verdict;
 use crate::watching::{Times, Watching, stats_of, write_servers};
 use core_accepted::LoadFault;
 use gate_check::ReloadFault;
@@ -47,7 +56,6 @@ use mcgate_args::serve_arguments::ServeJob;
 use mcgate_check::reload_lines::{write_kept, write_loaded, write_unchecked};
 use mcgate_check::status::DONE;
 use route_json::addresses::Servers;
-use route_json::limits::limits_of;
 use route_json::{Config, ConfigFault, read_config_after};
 use serde_json::Value;
 use serve_links::LinkNews;
@@ -74,22 +82,11 @@ fn millis_since<R: Clock>(rt: &R, began: io::Result<Instant>) -> u64 {
     }
 }
 
-// What is told where a name is followed.
-const OTHER_MACHINE: &str = "its name leads to another machine: the next connection goes there";
-
 /// The first address that a text names, or why it names none.
 pub fn resolve<N: Net>(net: &N, text: &str) -> io::Result<SocketAddr> {
     match text.to_socket_addrs(net)?.next() {
         Some(address) => Ok(address),
         None => Err(io::Error::from(ErrorKind::AddrNotAvailable)),
-    }
-}
-
-// What stands after the first of these places.
-fn after_first(places: &str) -> &str {
-    match places.find(',') {
-        Some(at) => places.get(at..).unwrap_or(""),
-        None => "",
     }
 }
 
@@ -104,8 +101,7 @@ pub fn tell_if_unknown<R: Eprint>(
         Ok(()) => Ok(true),
         Err(error) if error.kind() == ErrorKind::OutOfMemory => Err(error),
         Err(_) => {
-            let line = format_args!("mcgate: server {text}: no such host, its calls fail");
-            lines.warn(rt, line);
+            tell_name(rt, lines, text, NameNews::Unknown);
             Ok(false)
         }
     }
@@ -150,8 +146,6 @@ pub struct Serving<W: Wire> {
     emptying: Option<Emptying>,
     /// Whether no server waits until those of earlier epochs at its address have no calls any more.
     have_begun: bool,
-    /// Whether each server has the limits that the configuration in use says.
-    are_limited: bool,
 }
 
 // The text of a regular file; else a line of detail says why there is none. Of what is no such file the program doesn't wait for a text.
@@ -181,17 +175,22 @@ fn failed_answer(alloc: Global, details: &Details) -> Result<String, AllocError>
     format!(in alloc; "reload failed: {why}\n")
 }
 
-// A configuration that was read, and its servers once more.
+// The configuration that the text says, whose servers are numbered after these, its servers once more, and the text's value.
 fn read_after(
     alloc: Global,
     servers: &Servers,
     text: &str,
-) -> Result<(Config, Servers), ConfigFault>
-    ensures { IfOk result (λ read. TextSaysAfter servers.now text.now read.0) }
+) -> Result<(Config, Servers, Value), ConfigFault>
+    ensures says { IfOk result (λ read. TextSaysAfter servers.now text.now read.0) }
+    ensures servers { IfOk result (λ read. read.1 ≡ read.0.servers) }
+    ensures value { IfOk result (λ given. read text.now ≡ Some (view given.2)) }
 {
     let config = read_config_after(alloc, servers.copy(alloc)?, text)?;
     let servers = config.servers().copy(alloc)?;
-    Ok((config, servers))
+    match Value::from_str(alloc, text) {
+        Ok(said) => Ok((config, servers, said)),
+        Err(_) => Err(ConfigFault::NoMemory),
+    }
 }
 
 // The lesser of two, where there are two.
@@ -238,15 +237,13 @@ fn counted_after(before: u32, fault: ReloadFault) -> ReloadFault {
     }
 }
 
-// Prints why it was not.
+// Prints why a configuration was not loaded.
 fn print_kept<W: Write>(
     servers: &Servers,
     before: u32,
     fault: LoadFault,
     out: &mut W,
-) -> Result<(), Stop>
-    ensures { OnOk result (fault ≢ Refused NoMemory) }
-{
+) -> Result<(), Stop> {
     match fault {
         LoadFault::Refused(ReloadFault::NoMemory) => Err(Stop::Memory),
         LoadFault::Refused(fault) => {
@@ -304,6 +301,7 @@ impl<W: Wire + Drop> Serving<W> {
     ) -> io::Result<Serving<W>>
         ensures end { IfOk result (λ serving. serving.end ≡ end) }
         ensures in_use { IfOk result (λ serving. serving.in_use ≡ in_use) }
+        ensures text { IfOk result (λ serving. serving.text ≡ started.text) }
     {
         let (text, memory) = started.into_parts();
         let before = before_of(&memory);
@@ -332,7 +330,6 @@ impl<W: Wire + Drop> Serving<W> {
             draining: None,
             emptying: None,
             have_begun: false,
-            are_limited: false,
         })
     }
 }
@@ -360,10 +357,26 @@ impl<W: Listens> Serving<W> {
         rt: &R,
         job: &ServeJob<'_>,
     ) -> Result<u8, Stop>
-        ensures ends { GoesOnServing W.history self.old.end self.new.end }
+        ensures ends { ServesFrom W.history job.now.settings (string_bytes self.old.text) self.old.end self.new.end }
     {
+        self.limit_servers(rt.alloc(), job)?;
         self.tell_start(rt, job)?;
         self.run(rt, job)
+    }
+
+    // Each server gets the limits that its pools say in the text.
+    fn limit_servers(&mut self, alloc: Global, job: &ServeJob<'_>) -> Result<(), Stop>
+        ensures limited { OnOk result (AreLimited (text_limits (usual_limits job.now.settings) (string_bytes self.old.text)) (servers_of self.new.end.sockets.links.all.items)) }
+        ensures core { self.new.end.core ≡ self.old.end.core }
+        ensures ends { StayButLimits W.history self.old.end.sockets self.new.end.sockets }
+    {
+        match Value::from_str(alloc, self.text.as_str()) {
+            Ok(said) => {
+                self.end.limit(job.settings.link_limits(), &said);
+                Ok(())
+            }
+            Err(_) => Err(Stop::Memory),
+        }
     }
 
     // Tells that it listens, and with a tree of which no gate was asked what that means.
@@ -374,15 +387,10 @@ impl<W: Listens> Serving<W> {
     ) -> io::Result<()>
         ensures { self.new.end ≡ self.old.end }
     {
-        if job.any {
-            self.lines.warn(
-                rt,
-                "mcgate: WARNING: --any: no gate was asked, nothing is promised: replies may show deleted data",
-            );
-        }
+        tell_if_any(rt, &mut self.lines, job);
         self.tell_place(rt, job);
-        self.tell_if_new(rt, job);
-        self.tell_if_giving_up(rt, job);
+        tell_if_new(rt, &mut self.lines, job);
+        tell_if_giving_up(rt, &mut self.lines, job);
         self.begin_watching(rt)?;
         self.begin_controlling(rt)?;
         self.watch_input(rt, job)
@@ -394,36 +402,8 @@ impl<W: Listens> Serving<W> {
     {
         let servers = self.servers.len();
         let generation = self.generation.saturating_add(self.before);
-        let whose = if job.fleet { ", one of a fleet" } else { "" };
-        match self.end.wire().listens_at() {
-            Ok(address) => self.lines.tell(
-                rt,
-                format_args!(
-                    "mcgate: serving {} on {address}{}, {servers} servers, generation {generation}{whose}",
-                    job.file,
-                    after_first(job.listen)
-                ),
-            ),
-            Err(_) => self.lines.tell(
-                rt,
-                format_args!(
-                    "mcgate: serving {} on {}, {servers} servers, generation {generation}{whose}",
-                    job.file, job.listen
-                ),
-            ),
-        }
-    }
-
-    // Tells what the promise rests on where connections are given up while late answers are to come.
-    fn tell_if_giving_up<R: Eprint>(&mut self, rt: &R, job: &ServeJob<'_>)
-        ensures { self.new.end ≡ self.old.end }
-    {
-        if job.settings.give_up_ms.is_some() {
-            self.lines.tell(
-                rt,
-                "mcgate: with --give-up-ms what is promised rests on servers that apply no call once its connection was given up",
-            );
-        }
+        let address = self.end.wire().listens_at();
+        tell_serving(rt, &mut self.lines, job, address, servers, generation);
     }
 
     // From now on it wakes up for who asks for numbers, where it listens for them, and tells that.
@@ -435,8 +415,7 @@ impl<W: Listens> Serving<W> {
         };
         self.end.wire().wake_up_by(watching.descriptor())?;
         let address = watching.local_addr()?;
-        self.lines
-            .tell(rt, format_args!("mcgate: metrics on {address}"));
+        tell_metrics(rt, &mut self.lines, address);
         Ok(())
     }
 
@@ -448,8 +427,7 @@ impl<W: Listens> Serving<W> {
             return Ok(());
         };
         self.end.wire().wake_up_by(controlling.descriptor())?;
-        let line = format_args!("mcgate: control at {}", controlling.path());
-        self.lines.tell(rt, line);
+        tell_control(rt, &mut self.lines, controlling.path());
         Ok(())
     }
 
@@ -471,8 +449,7 @@ impl<W: Listens> Serving<W> {
                 Ok(())
             }
             Err(error) => {
-                let line = format_args!("mcgate: standard input can't be watched: {error}");
-                self.lines.tell(rt, line);
+                tell_unwatched(rt, &mut self.lines, &error);
                 Err(error)
             }
         }
@@ -492,25 +469,14 @@ impl<W: Listens> Serving<W> {
         }
     }
 
-    // Tells that nothing is remembered of trees before, where no history is kept.
-    fn tell_if_new<R: Eprint>(&mut self, rt: &R, job: &ServeJob<'_>)
-        ensures { self.new.end ≡ self.old.end }
-    {
-        if !job.any && job.history.is_none() {
-            self.lines.tell(
-                rt,
-                "mcgate: without --history what is promised begins now: no tree that was served before is remembered",
-            );
-        }
-    }
-
-    // Turns it so.
+    // Turns it as often as is asked, or until it has drained; what happens to servers is told, and the file is read again, when that is due. The answer is
+    // the exit status.
     fn run<R: Files + Input + Net + Clock + AllocGlobal + Print + Eprint>(
         &mut self,
         rt: &R,
         job: &ServeJob<'_>,
     ) -> Result<u8, Stop>
-        ensures ends { GoesOnServing W.history self.old.end self.new.end }
+        ensures ends { ServesByTexts W.history job.now.settings self.old.end self.new.end }
     {
         self.begin_emptying(rt, job)?;
         self.run_turns(rt, job)?;
@@ -523,7 +489,7 @@ impl<W: Listens> Serving<W> {
         rt: &R,
         job: &ServeJob<'_>,
     ) -> Result<(), Stop>
-        ensures ends { GoesOnServing W.history self.old.end self.new.end }
+        ensures ends { ServesByTexts W.history job.now.settings self.old.end self.new.end }
     {
         for _ in 0..job.turns.map_or(u64::MAX, u64::from) {
             self.turn(rt, job)?;
@@ -542,7 +508,7 @@ impl<W: Listens> Serving<W> {
         rt: &R,
         job: &ServeJob<'_>,
     ) -> Result<bool, Stop>
-        ensures ends { GoesOnServing W.history self.old.end self.new.end }
+        ensures ends { ServesByTexts W.history job.now.settings self.old.end self.new.end }
     {
         self.lines.look(rt);
         self.tell_news(rt);
@@ -551,36 +517,35 @@ impl<W: Listens> Serving<W> {
         self.look_if_due(rt, job)?;
         self.turn_watching(rt);
         self.take_orders(rt, job)?;
-        self.keep_servers(rt.alloc());
+        self.keep_epochs();
         Ok(self.has_drained(rt)?)
     }
 
-    // What is done after the last one.
-    #[tactic(auto, using(crate::proofs::Loads::serves_still))]
+    // What is done after the last turn: what was held back goes to clients, and who waits for the end is told that it has come.
     fn end_all<R: Files + AllocGlobal + Eprint>(&mut self, rt: &R) -> u8
-        ensures ends { GoesOnServing W.history self.old.end self.new.end }
+        ensures ends { AllGoOn W.history self.old.end.core.value self.old.end.sockets self.new.end.core.value self.new.end.sockets }
     {
         self.end.end_turns();
         self.end_controlling(rt);
         DONE
     }
 
-    // Those of whom the run before didn't know it are emptied before their first call.
+    // Servers that the run before left to be emptied are, before their first call.
     fn begin_emptying<R: Files + Input + AllocGlobal>(
         &mut self,
         rt: &R,
         job: &ServeJob<'_>,
     ) -> Result<(), Stop>
         ensures core { self.new.end.core ≡ self.old.end.core }
-        ensures ends { StayButLimits W.history self.old.end.sockets self.new.end.sockets }
+        ensures ends { Stay W.history self.old.end.sockets self.new.end.sockets }
     {
         let emptying = Emptying::read(rt, job.history, job.settings.flushes_new)?;
         self.emptying = Some(emptying);
-        self.keep_servers(rt.alloc());
+        self.keep_epochs();
         Ok(())
     }
 
-    // The first of those that are to be emptied, from this server on.
+    // The first server that is to be emptied, from this one on.
     fn next_emptying(&self, from: usize) -> Option<usize>
         ensures { IfSome result (IsDueAt self.now.emptying self.now.servers) }
     {
@@ -590,7 +555,7 @@ impl<W: Listens> Serving<W> {
         }
     }
 
-    // All of them are emptied before their first call, and no others are by that.
+    // The servers that are to be emptied are, before their first call, and no others are by that.
     fn mark_emptying(&mut self)
         ensures emptied { EmptiesOnly (IsDueAt self.old.emptying self.old.servers) self.old.end.sockets.links.all.items self.new.end.sockets.links.all.items }
         ensures core { self.new.end.core ≡ self.old.end.core }
@@ -629,49 +594,6 @@ impl<W: Listens> Serving<W> {
         self.have_begun = self.end.keep_epochs(&self.servers);
     }
 
-    // Calls go to servers as the configuration in use says it: while their epochs last, and within their limits.
-    fn keep_servers(&mut self, alloc: Global)
-        ensures core { self.new.end.core ≡ self.old.end.core }
-        ensures ends { StayButLimits W.history self.old.end.sockets self.new.end.sockets }
-    {
-        self.keep_epochs();
-        self.keep_limits(alloc)
-    }
-
-    // Each server gets the limits that its pools say, where there is another configuration. Where memory is refused that is for the next turn.
-    fn keep_limits(&mut self, alloc: Global)
-        ensures core { self.new.end.core ≡ self.old.end.core }
-        ensures ends { StayButLimits W.history self.old.end.sockets self.new.end.sockets }
-    {
-        if self.are_limited {
-            return;
-        }
-        if let Ok(value) = Value::from_str(alloc, self.text.as_str()) {
-            self.limit_servers(&value);
-            self.are_limited = true;
-        }
-    }
-
-    // Each server gets the limits that its pools say.
-    fn limit_servers(&mut self, config: &Value)
-        ensures core { self.new.end.core ≡ self.old.end.core }
-        ensures ends { StayButLimits W.history self.old.end.sockets self.new.end.sockets }
-    {
-        for at in 0..self.servers.len() {
-            self.limit_server(config, at);
-        }
-    }
-
-    fn limit_server(&mut self, config: &Value, at: usize)
-        ensures core { self.new.end.core ≡ self.old.end.core }
-        ensures ends { StayButLimits W.history self.old.end.sockets self.new.end.sockets }
-    {
-        if let Some(text) = text_at(&self.servers, at) {
-            let limits = own_limits(self.end.usual_limits(), limits_of(config, text));
-            self.end.limit(at, limits);
-        }
-    }
-
     fn millis<R: Clock>(&self, rt: &R) -> io::Result<u64> {
         let millis = self.since.elapsed(rt)?.as_millis();
         Ok(u64::try_from(millis).unwrap_or(u64::MAX))
@@ -702,7 +624,7 @@ impl<W: Listens> Serving<W> {
         Ok(until.map(Duration::from_millis))
     }
 
-    // One turn, which doesn't wait longer than that. After it no more is held for all clients than the job's memory.
+    // One turn, which doesn't wait longer than until something else is due. After it no more is held for all clients than the job's memory.
     #[tactic(auto, using(crate::proofs::Loads::goes_still))]
     fn turn<R: Net + Clock>(&mut self, rt: &R, job: &ServeJob<'_>) -> io::Result<()>
         ensures ends { AllGoOn W.history self.old.end.core.value self.old.end.sockets self.new.end.core.value self.new.end.sockets }
@@ -723,7 +645,26 @@ impl<W: Listens> Serving<W> {
     {
         self.tell_links(rt);
         self.tell_stalled(rt);
-        self.tell_refused(rt)
+        self.tell_untaken(rt)
+    }
+
+    // Tells how many weren't taken that came.
+    fn tell_untaken<R: Eprint>(&mut self, rt: &R)
+        ensures { self.new.end ≡ self.old.end }
+    {
+        self.tell_refused(rt);
+        self.tell_unaccepted(rt)
+    }
+
+    // Tells how often the system refused to accept a connection.
+    fn tell_unaccepted<R: Eprint>(&mut self, rt: &R)
+        ensures { self.new.end ≡ self.old.end }
+    {
+        let unaccepted = self.end.tally().unaccepted;
+        let now = self.end.wire().last_millis();
+        if let Some(count) = self.seen.next_unaccepted(unaccepted, now) {
+            tell_unaccepted(rt, &mut self.lines, count);
+        }
     }
 
     // Tells how many clients were turned away, as there were too many.
@@ -733,8 +674,7 @@ impl<W: Listens> Serving<W> {
         let refused = self.end.core_tally().refused;
         let now = self.end.wire().last_millis();
         if let Some(count) = self.seen.next_refused(refused, now) {
-            let line = format_args!("mcgate: clients refused as too many: {count}");
-            self.lines.warn(rt, line);
+            tell_refused(rt, &mut self.lines, count);
         }
     }
 
@@ -744,8 +684,7 @@ impl<W: Listens> Serving<W> {
         ensures ends { Stay W.history self.old.end.sockets self.new.end.sockets }
     {
         if let Some(count) = self.end.next_stalled() {
-            let line = format_args!("mcgate: clients closed that took too little: {count}");
-            self.lines.warn(rt, line);
+            tell_stalled(rt, &mut self.lines, count);
         }
     }
 
@@ -778,11 +717,7 @@ impl<W: Listens> Serving<W> {
             flushes: self.flushes(at),
         };
         if let Some(text) = self.servers.get(ServerId::new(number)) {
-            let line = format_args!("mcgate: server {text}: {told}");
-            match news {
-                LinkNews::Opened | LinkNews::Back => self.lines.tell(rt, line),
-                LinkNews::Failed(_, _) | LinkNews::Late => self.lines.warn(rt, line),
-            }
+            tell_server(rt, &mut self.lines, text, told);
         }
     }
 
@@ -857,7 +792,7 @@ impl<W: Listens> Serving<W> {
         }
     }
 
-    // That of this server, where calls may go by it.
+    // The name of this server is looked up again, where calls may go by it.
     #[tactic(auto, using(crate::proofs::Loads::stays_still))]
     fn look_if_called<R: Files + Net + Clock + AllocGlobal + Eprint>(
         &mut self,
@@ -895,12 +830,7 @@ impl<W: Listens> Serving<W> {
     {
         match self.lead_of(rt, at) {
             Ok(lead) => self.take_lead(rt, job, at, now, lead),
-            Err(_) => self.tell_name(
-                rt,
-                at,
-                now,
-                "its name can't be looked up, calls go on as before",
-            ),
+            Err(_) => self.tell_name(rt, at, now, NameNews::NotFound),
         }
     }
 
@@ -912,7 +842,7 @@ impl<W: Listens> Serving<W> {
         }
     }
 
-    // It leads so: that is followed, or told if that is to be known.
+    // The name of this server leads so now: that is followed, or told if that is to be known.
     #[tactic(auto, using(crate::proofs::Loads::stays_same, crate::proofs::Loads::same_box))]
     fn take_lead<R: Files + Net + AllocGlobal + Eprint>(
         &mut self,
@@ -942,18 +872,13 @@ impl<W: Listens> Serving<W> {
         ensures in_use { self.new.in_use ≡ self.old.in_use }
     {
         match lead {
-            Lead::Other => self.tell_name(
-                rt,
-                at,
-                now,
-                "its name leads to another machine, which may hold anything: calls go on to the one before (see --new-servers)",
-            ),
+            Lead::Other => self.tell_name(rt, at, now, NameNews::Kept),
             Lead::Same | Lead::First => {}
         }
     }
 
     // A line of this server, and for a while no other of its name.
-    fn tell_name<R: Eprint>(&mut self, rt: &R, at: usize, now: u64, words: &str)
+    fn tell_name<R: Eprint>(&mut self, rt: &R, at: usize, now: u64, news: NameNews)
         ensures end { self.new.end ≡ self.old.end }
         ensures memory { self.new.memory ≡ self.old.memory }
         ensures in_use { self.new.in_use ≡ self.old.in_use }
@@ -962,12 +887,12 @@ impl<W: Listens> Serving<W> {
             return;
         }
         if let Some(text) = text_at(&self.servers, at) {
-            let line = format_args!("mcgate: server {text}: {words}");
-            self.lines.warn(rt, line);
+            tell_name(rt, &mut self.lines, text, news);
         }
     }
 
-    // Connections that are begun from now on go where its name leads. Where new servers are emptied first so is another machine.
+    // Connections to this server that are begun from now on go where its name leads. Where new servers are emptied first another machine is, too, or none
+    // goes there.
     fn follow<R: Files + Net + AllocGlobal + Eprint>(
         &mut self,
         rt: &R,
@@ -984,11 +909,12 @@ impl<W: Listens> Serving<W> {
     {
         match lead {
             Lead::Other => self.follow_other(rt, flushes, at, now),
-            Lead::Same | Lead::First => self.move_to(rt, at, "its name is known now"),
+            Lead::Same | Lead::First => self.move_to(rt, at, NameNews::Known),
         }
     }
 
-    // The same of another machine.
+    // Connections to this server that are begun from now on go to another machine, where its name leads now. Where new servers are emptied first it is, too,
+    // or none goes there.
     fn follow_other<R: Files + Net + AllocGlobal + Eprint>(
         &mut self,
         rt: &R,
@@ -1005,11 +931,12 @@ impl<W: Listens> Serving<W> {
         if flushes {
             self.follow_emptied(rt, at, now)
         } else {
-            self.move_to(rt, at, OTHER_MACHINE)
+            self.move_to(rt, at, NameNews::Moved)
         }
     }
 
-    // The same of one that is emptied before its first call.
+    // Connections to this server that are begun from now on go to another machine, where its name leads now, which is emptied before its first call; or none
+    // goes there, where that couldn't be written or isn't possible yet.
     #[tactic(auto, using(crate::proofs::Loads::stays_same, crate::proofs::Loads::same_box))]
     fn follow_emptied<R: Files + Net + AllocGlobal + Eprint>(&mut self, rt: &R, at: usize, now: u64)
         ensures emptied { (self.new.end ≡ self.old.end) ⊎ FlushesAt at self.new.end.sockets.links.all.items }
@@ -1022,7 +949,7 @@ impl<W: Listens> Serving<W> {
             return;
         }
         self.end.empty_first(at);
-        self.move_to(rt, at, OTHER_MACHINE)
+        self.move_to(rt, at, NameNews::Moved)
     }
 
     // It is written that this server is to be emptied. Whether it was: where it can't be that is told, and while what its connection was asked first
@@ -1039,12 +966,7 @@ impl<W: Listens> Serving<W> {
         if self.note_moved(rt, at).is_ok() {
             return true;
         }
-        self.tell_name(
-            rt,
-            at,
-            now,
-            "its name leads to another machine, and it can't be written that this is to be emptied: calls go on to the one before",
-        );
+        self.tell_name(rt, at, now, NameNews::Unwritten);
         false
     }
 
@@ -1072,7 +994,7 @@ impl<W: Listens> Serving<W> {
 
     // Connections to this server that are begun from now on go where its name leads, which is told.
     #[tactic(auto, using(crate::proofs::Loads::stays_still))]
-    fn move_to<R: Net + AllocGlobal + Eprint>(&mut self, rt: &R, at: usize, words: &str)
+    fn move_to<R: Net + AllocGlobal + Eprint>(&mut self, rt: &R, at: usize, news: NameNews)
         ensures links { self.new.end.sockets.links ≡ self.old.end.sockets.links }
         ensures core { self.new.end.core ≡ self.old.end.core }
         ensures ends { Stay W.history self.old.end.sockets self.new.end.sockets }
@@ -1083,8 +1005,7 @@ impl<W: Listens> Serving<W> {
             Some(text) => {
                 if self.end.resolve(rt, text).is_ok() {
                     self.seen.note_found(rt.alloc(), text, true);
-                    let line = format_args!("mcgate: server {text}: {words}");
-                    self.lines.tell(rt, line);
+                    tell_name(rt, &mut self.lines, text, news);
                 }
             }
             None => {}
@@ -1103,12 +1024,7 @@ impl<W: Listens> Serving<W> {
         let Ok(said) = std::str::from_utf8(said) else {
             return;
         };
-        let said = said.trim_end();
-        if is_used {
-            self.lines.tell(rt, said);
-        } else {
-            self.lines.warn(rt, said);
-        }
+        tell_verdict(rt, &mut self.lines, is_used, said.trim_end());
     }
 
     // Whether the file is to be read again.
@@ -1131,7 +1047,7 @@ impl<W: Listens> Serving<W> {
         rt: &R,
         job: &ServeJob<'_>,
     ) -> Result<(), Stop>
-        ensures ends { GoesOnServing W.history self.old.end self.new.end }
+        ensures ends { ServesByTexts W.history job.now.settings self.old.end self.new.end }
     {
         if self.is_due(rt, job)? {
             return self.look(rt, job);
@@ -1146,7 +1062,7 @@ impl<W: Listens> Serving<W> {
         rt: &R,
         job: &ServeJob<'_>,
     ) -> Result<(), Stop>
-        ensures ends { GoesOnServing W.history self.old.end self.new.end }
+        ensures ends { ServesByTexts W.history job.now.settings self.old.end self.new.end }
     {
         self.turns = 0;
         self.since = Instant::now(rt)?;
@@ -1158,19 +1074,19 @@ impl<W: Listens> Serving<W> {
             }
             Err(InputFault::NoMemory) => Err(Stop::Memory),
             Err(_) => {
-                self.tell_unread(rt, &details);
+                self.tell_unread(rt, job, &details);
                 Ok(())
             }
         }
     }
 
     // Tells why the file can't be read, if it could be before.
-    fn tell_unread<R: Eprint>(&mut self, rt: &R, details: &Details)
+    fn tell_unread<R: Eprint>(&mut self, rt: &R, job: &ServeJob<'_>, details: &Details)
         ensures { self.new.end ≡ self.old.end }
     {
         if !self.seen.is_unread {
             self.seen.is_unread = true;
-            say_all(rt, &mut self.lines, details);
+            say_unread(rt, &mut self.lines, job, details);
         }
     }
 
@@ -1194,7 +1110,6 @@ impl<W: Listens> Serving<W> {
             self.seen.note_in_use(text.as_str());
             self.text = text;
             self.refused = None;
-            self.are_limited = false;
         } else {
             self.refused = Some(text);
         }
@@ -1208,7 +1123,7 @@ impl<W: Listens> Serving<W> {
         text: String,
     ) -> Result<(), Stop>
         ensures core { MayLoadText self.old.in_use self.old.servers (string_bytes text) self.old.end.core.value self.new.end.core.value }
-        ensures ends { GoesOnServing W.history self.old.end self.new.end }
+        ensures ends { ServesByTexts W.history job.now.settings self.old.end self.new.end }
         ensures remembered { StandsIfLoaded self.old.end.core.value self.new.end.core.value self.new.memory (string_bytes text) }
         ensures in_use { IfOk result (λ _. LoadsText self.old.in_use self.new.in_use self.old.servers (string_bytes text) self.old.end.core.value self.new.end.core.value) }
     {
@@ -1220,8 +1135,8 @@ impl<W: Listens> Serving<W> {
         Ok(())
     }
 
-    // The same of a text that it may have had before: whether the configuration in use is that of the text then. What came of it is added to
-    // what was said, and printed.
+    // Judges a text, which the file may have had before, and loads what it says: whether the configuration in use is that of the text then.
+    // What came of it is added to what was said, and printed.
     #[tactic(auto, using(crate::proofs::Loads::serves_still))]
     fn load_new<R: Files + Net + Clock + AllocGlobal + Print + Eprint>(
         &mut self,
@@ -1231,11 +1146,11 @@ impl<W: Listens> Serving<W> {
         said: &mut Vec<u8>,
     ) -> Result<bool, Stop>
         ensures core { MayLoadText self.old.in_use self.old.servers (string_bytes text) self.old.end.core.value self.new.end.core.value }
-        ensures ends { GoesOnServing W.history self.old.end self.new.end }
+        ensures ends { ServesByTexts W.history job.now.settings self.old.end self.new.end }
         ensures remembered { StandsIfLoaded self.old.end.core.value self.new.end.core.value self.new.memory (string_bytes text) }
         ensures in_use { IfOk result (λ _. LoadsText self.old.in_use self.new.in_use self.old.servers (string_bytes text) self.old.end.core.value self.new.end.core.value) }
     {
-        let is_used = self.judge_text(rt, job.any, text.as_str(), said)?;
+        let is_used = self.judge_text(rt, job, text.as_str(), said)?;
         self.note_said(rt, job, text, is_used, said.as_slice());
         Ok(is_used)
     }
@@ -1278,7 +1193,7 @@ impl<W: Listens> Serving<W> {
         rt: &R,
         job: &ServeJob<'_>,
     ) -> Result<(), Stop>
-        ensures ends { GoesOnServing W.history self.old.end self.new.end }
+        ensures ends { ServesByTexts W.history job.now.settings self.old.end self.new.end }
     {
         self.drain_at_end(rt, job)?;
         self.take_words(rt, job)
@@ -1289,7 +1204,7 @@ impl<W: Listens> Serving<W> {
         rt: &R,
         job: &ServeJob<'_>,
     ) -> Result<(), Stop>
-        ensures ends { GoesOnServing W.history self.old.end self.new.end }
+        ensures ends { ServesByTexts W.history job.now.settings self.old.end self.new.end }
     {
         if self.has_input_ended(rt) {
             return self.begin_draining(rt, job);
@@ -1315,7 +1230,7 @@ impl<W: Listens> Serving<W> {
         rt: &R,
         job: &ServeJob<'_>,
     ) -> Result<(), Stop>
-        ensures ends { GoesOnServing W.history self.old.end self.new.end }
+        ensures ends { ServesByTexts W.history job.now.settings self.old.end self.new.end }
     {
         self.turn_controlling(rt);
         for _ in 0..PLACES {
@@ -1354,7 +1269,7 @@ impl<W: Listens> Serving<W> {
         place: usize,
         line: &[u8],
     ) -> Result<(), Stop>
-        ensures ends { GoesOnServing W.history self.old.end self.new.end }
+        ensures ends { ServesByTexts W.history job.now.settings self.old.end self.new.end }
     {
         match request_of(line) {
             Request::Drain => self.drain(rt, job, place),
@@ -1403,7 +1318,7 @@ impl<W: Listens> Serving<W> {
         }
     }
 
-    // The same where it was written, or memory was refused for it.
+    // The one at this place is answered by this text, where it was written, or that memory was refused for it.
     fn answer_written(&mut self, place: usize, written: io::Result<()>, text: &[u8])
         ensures { self.new.end ≡ self.old.end }
     {
@@ -1421,7 +1336,7 @@ impl<W: Listens> Serving<W> {
         job: &ServeJob<'_>,
         place: usize,
     ) -> Result<(), Stop>
-        ensures ends { GoesOnServing W.history self.old.end self.new.end }
+        ensures ends { ServesByTexts W.history job.now.settings self.old.end self.new.end }
     {
         self.keep(place);
         self.begin_draining(rt, job)
@@ -1439,7 +1354,7 @@ impl<W: Listens> Serving<W> {
     // Nobody is accepted from now on, if that wasn't so before.
     #[tactic(auto, using(crate::proofs::Loads::serves_still))]
     fn begin_draining<R: Clock + Eprint>(&mut self, rt: &R, job: &ServeJob<'_>) -> Result<(), Stop>
-        ensures ends { GoesOnServing W.history self.old.end self.new.end }
+        ensures ends { ServesByTexts W.history job.now.settings self.old.end self.new.end }
     {
         if self.draining.is_some() {
             return Ok(());
@@ -1455,15 +1370,14 @@ impl<W: Listens> Serving<W> {
         ensures ends { Stay W.history self.old.end.sockets self.new.end.sockets }
     {
         let clients = self.end.clients();
-        let line = format_args!("mcgate: draining, {clients} clients are there");
-        self.lines.tell(rt, line);
+        tell_draining(rt, &mut self.lines, clients);
         self.end.stop_accepting();
     }
 
     // Whether it drains, and all clients are gone or its time is up. While it drains, clients go of which nothing is under way.
-    #[tactic(auto, using(crate::proofs::Loads::serves_still))]
+    #[tactic(auto, using(crate::proofs::Loads::goes_still))]
     fn has_drained<R: Clock>(&mut self, rt: &R) -> io::Result<bool>
-        ensures ends { GoesOnServing W.history self.old.end self.new.end }
+        ensures ends { AllGoOn W.history self.old.end.core.value self.old.end.sockets self.new.end.core.value self.new.end.sockets }
     {
         let Some(draining) = self.draining else {
             return Ok(false);
@@ -1496,8 +1410,7 @@ impl<W: Listens> Serving<W> {
         ensures { self.new.end ≡ self.old.end }
     {
         if self.draining.is_some() {
-            let line = format_args!("mcgate: drained, {clients} clients were left");
-            self.lines.tell(rt, line);
+            tell_drained(rt, &mut self.lines, clients);
         }
     }
 
@@ -1509,7 +1422,7 @@ impl<W: Listens> Serving<W> {
         job: &ServeJob<'_>,
         place: usize,
     ) -> Result<(), Stop>
-        ensures ends { GoesOnServing W.history self.old.end self.new.end }
+        ensures ends { ServesByTexts W.history job.now.settings self.old.end self.new.end }
     {
         self.turns = 0;
         self.since = Instant::now(rt)?;
@@ -1542,7 +1455,7 @@ impl<W: Listens> Serving<W> {
         place: usize,
         text: String,
     ) -> Result<(), Stop>
-        ensures ends { GoesOnServing W.history self.old.end self.new.end }
+        ensures ends { ServesByTexts W.history job.now.settings self.old.end self.new.end }
     {
         let mut said = Vec::new(rt.alloc());
         let is_used = self.load_new(rt, job, text, &mut said)?;
@@ -1611,12 +1524,12 @@ impl<W: Listens> Serving<W> {
     fn judge_text<R: Files + Net + AllocGlobal + Eprint, O: Write>(
         &mut self,
         rt: &R,
-        any: bool,
+        job: &ServeJob<'_>,
         text: &str,
         out: &mut O,
     ) -> Result<bool, Stop>
         ensures core { MayLoadText self.old.in_use self.old.servers text.now self.old.end.core.value self.new.end.core.value }
-        ensures ends { GoesOnServing W.history self.old.end self.new.end }
+        ensures ends { ServesByTexts W.history job.now.settings self.old.end self.new.end }
         ensures remembered { StandsIfLoaded self.old.end.core.value self.new.end.core.value self.new.memory text.now }
         ensures in_use { IfOk result (λ _. LoadsText self.old.in_use self.new.in_use self.old.servers text.now self.old.end.core.value self.new.end.core.value) }
     {
@@ -1625,7 +1538,7 @@ impl<W: Listens> Serving<W> {
             writeln!(out, "reload unchanged generation={generation}")?;
             return Ok(true);
         }
-        self.remember_and_load(rt, any, text, out)
+        self.remember_and_load(rt, job, text, out)
     }
 
     // Loads the configuration of the text, once it stands in the history, where one is kept. Whether it was loaded.
@@ -1633,12 +1546,12 @@ impl<W: Listens> Serving<W> {
     fn remember_and_load<R: Files + Net + AllocGlobal + Eprint, O: Write>(
         &mut self,
         rt: &R,
-        any: bool,
+        job: &ServeJob<'_>,
         text: &str,
         out: &mut O,
     ) -> Result<bool, Stop>
         ensures core { MayLoadText self.old.in_use self.old.servers text.now self.old.end.core.value self.new.end.core.value }
-        ensures ends { GoesOnServing W.history self.old.end self.new.end }
+        ensures ends { ServesByTexts W.history job.now.settings self.old.end self.new.end }
         ensures remembered { StandsIfLoaded self.old.end.core.value self.new.end.core.value self.new.memory text.now }
         ensures in_use { IfOk result (λ _. LoadsText self.old.in_use self.new.in_use self.old.servers text.now self.old.end.core.value self.new.end.core.value) }
     {
@@ -1654,7 +1567,7 @@ impl<W: Listens> Serving<W> {
         }
         match remember(rt, &mut self.lines, &mut self.memory, text, out)? {
             Remembering::Refused => Ok(false),
-            Remembering::Stands(old) => self.load_remembered(rt, any, text, old, out),
+            Remembering::Stands(old) => self.load_remembered(rt, job, text, old, out),
         }
     }
 
@@ -1663,18 +1576,18 @@ impl<W: Listens> Serving<W> {
     fn load_remembered<R: Files + Net + AllocGlobal + Eprint, O: Write>(
         &mut self,
         rt: &R,
-        any: bool,
+        job: &ServeJob<'_>,
         text: &str,
         old: Option<String>,
         out: &mut O,
     ) -> Result<bool, Stop>
         requires stands { StandsIn self.old.memory text.now }
         ensures core { MayLoadText self.old.in_use self.old.servers text.now self.old.end.core.value self.new.end.core.value }
-        ensures ends { GoesOnServing W.history self.old.end self.new.end }
+        ensures ends { ServesByTexts W.history job.now.settings self.old.end self.new.end }
         ensures remembered { StandsIfLoaded self.old.end.core.value self.new.end.core.value self.new.memory text.now }
         ensures in_use { IfOk result (λ _. LoadsText self.old.in_use self.new.in_use self.old.servers text.now self.old.end.core.value self.new.end.core.value) }
     {
-        if self.load_text(rt, any, text, out)? {
+        if self.load_text(rt, job, text, out)? {
             return Ok(true);
         }
         forget(rt, &mut self.lines, &mut self.memory, old)?;
@@ -1686,18 +1599,18 @@ impl<W: Listens> Serving<W> {
     fn load_text<R: Net + AllocGlobal + Eprint, O: Write>(
         &mut self,
         rt: &R,
-        any: bool,
+        job: &ServeJob<'_>,
         text: &str,
         out: &mut O,
     ) -> Result<bool, Stop>
         ensures core { MayLoadText self.old.in_use self.old.servers text.now self.old.end.core.value self.new.end.core.value }
-        ensures ends { GoesOnServing W.history self.old.end self.new.end }
+        ensures ends { ServesByTexts W.history job.now.settings self.old.end self.new.end }
         ensures memory { self.new.memory ≡ self.old.memory }
         ensures unused { IfOk result (λ used. IsTrue used ⊎ (self.new.end.core.value ≡ self.old.end.core.value)) }
         ensures in_use { IfOk result (λ _. LoadsText self.old.in_use self.new.in_use self.old.servers text.now self.old.end.core.value self.new.end.core.value) }
     {
         match read_after(rt.alloc(), &self.servers, text) {
-            Ok((config, servers)) => self.load_beside(rt, any, config, servers, out),
+            Ok((config, servers, said)) => self.load_beside(rt, job, config, servers, &said, out),
             Err(fault) => {
                 print_fault(&fault, out)?;
                 Ok(false)
@@ -1710,19 +1623,20 @@ impl<W: Listens> Serving<W> {
     fn load_beside<R: Net + AllocGlobal + Eprint, O: Write>(
         &mut self,
         rt: &R,
-        any: bool,
+        job: &ServeJob<'_>,
         config: Config,
         servers: Servers,
+        said: &Value,
         out: &mut O,
     ) -> Result<bool, Stop>
         ensures core { MayLoadBeside self.old.in_use config self.old.end.core.value self.new.end.core.value }
-        ensures ends { AllGrow (IsLoadOf config) (proxy_of W.history self.old.end) (proxy_of W.history self.new.end) }
+        ensures ends { AllLoad W.history config servers (value_limits (usual_limits job.now.settings) (view said.now)) self.old.end.core.value self.old.end.sockets self.new.end.core.value self.new.end.sockets }
         ensures memory { self.new.memory ≡ self.old.memory }
         ensures unused { IfOk result (λ used. IsTrue used ⊎ (self.new.end.core.value ≡ self.old.end.core.value)) }
         ensures in_use { IfOk result (λ used. LoadsOne used config self.old.in_use self.new.in_use self.old.end.core.value self.new.end.core.value) }
     {
         if self.may_follow(rt.alloc(), &config, out)? {
-            return self.load_next(rt, any, config, servers, out);
+            return self.load_next(rt, job, config, servers, said, out);
         }
         Ok(false)
     }
@@ -1742,25 +1656,26 @@ impl<W: Listens> Serving<W> {
         }
     }
 
-    // The same, and in a fleet it is in use then.
+    // Loads a configuration of these servers, which may follow the one in use, and prints what came of that. In a fleet it is in use then. Whether it was loaded.
     #[tactic(auto, using(crate::proofs::Loads::load_still, crate::proofs::Loads::may_load_beside))]
     fn load_next<R: Net + AllocGlobal + Eprint, O: Write>(
         &mut self,
         rt: &R,
-        any: bool,
+        job: &ServeJob<'_>,
         config: Config,
         servers: Servers,
+        said: &Value,
         out: &mut O,
     ) -> Result<bool, Stop>
         requires beside { StandsBeside self.old.in_use config }
         ensures core { MayLoadBeside self.old.in_use config self.old.end.core.value self.new.end.core.value }
-        ensures ends { AllGrow (IsLoadOf config) (proxy_of W.history self.old.end) (proxy_of W.history self.new.end) }
+        ensures ends { AllLoad W.history config servers (value_limits (usual_limits job.now.settings) (view said.now)) self.old.end.core.value self.old.end.sockets self.new.end.core.value self.new.end.sockets }
         ensures memory { self.new.memory ≡ self.old.memory }
         ensures unused { IfOk result (λ used. IsTrue used ⊎ (self.new.end.core.value ≡ self.old.end.core.value)) }
         ensures in_use { IfOk result (λ used. LoadsOne used config self.old.in_use self.new.in_use self.old.end.core.value self.new.end.core.value) }
     {
         let next = self.in_use_after(rt.alloc(), &config)?;
-        if self.load(rt, any, config, servers, out)? {
+        if self.load(rt, job, config, servers, said, out)? {
             self.in_use = next;
             return Ok(true);
         }
@@ -1795,7 +1710,7 @@ impl<W: Listens> Serving<W> {
         Ok(())
     }
 
-    // Looks up this one of them.
+    // Looks up the server of this number, if there is one.
     fn resolve_at<R: Net + AllocGlobal + Eprint>(
         &mut self,
         rt: &R,
@@ -1832,13 +1747,14 @@ impl<W: Listens> Serving<W> {
     fn load<R: Net + AllocGlobal + Eprint, O: Write>(
         &mut self,
         rt: &R,
-        any: bool,
+        job: &ServeJob<'_>,
         config: Config,
         servers: Servers,
+        said: &Value,
         out: &mut O,
     ) -> Result<bool, Stop>
         ensures core { MayLoad config self.old.end.core.value self.new.end.core.value }
-        ensures ends { AllGrow (IsLoadOf config) (proxy_of W.history self.old.end) (proxy_of W.history self.new.end) }
+        ensures ends { AllLoad W.history config servers (value_limits (usual_limits job.now.settings) (view said.now)) self.old.end.core.value self.old.end.sockets self.new.end.core.value self.new.end.sockets }
         ensures memory { self.new.memory ≡ self.old.memory }
         ensures in_use { self.new.in_use ≡ self.old.in_use }
         ensures looked { IfOk result (λ used. IsTrue used → AreLookedUp (length self.old.servers) servers (W.history self.new.end.sockets.wire)) }
@@ -1847,12 +1763,15 @@ impl<W: Listens> Serving<W> {
         ensures unused { IfOk result (λ used. IsTrue used ⊎ (self.new.end.core.value ≡ self.old.end.core.value)) }
     {
         self.resolve(rt, &servers)?;
-        match self.end.load(config, &servers) {
+        match self
+            .end
+            .load(config, &servers, job.settings.link_limits(), said)
+        {
             Ok(generation) => {
                 self.servers = servers;
                 self.have_begun = false;
                 self.generation = generation;
-                print_loaded(any, generation.saturating_add(self.before), out)?;
+                print_loaded(job.any, generation.saturating_add(self.before), out)?;
                 Ok(true)
             }
             Err(fault) => {

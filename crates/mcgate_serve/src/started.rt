@@ -38,7 +38,8 @@ impl Started {
 
     /// The text, and what is remembered.
     pub fn into_parts(self) -> (String, Option<Kept>)
-        ensures { ∥ StandsIn result.1 (string_bytes result.0) ∥₁ }
+        ensures text { result.0 ≡ self.text }
+        ensures stands { ∥ StandsIn result.1 (string_bytes result.0) ∥₁ }
     {
         let Started {
             text,

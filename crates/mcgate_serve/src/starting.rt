@@ -57,8 +57,8 @@ fn add_new<R: Files + AllocGlobal>(
     emptying.add(rt, generations[count - 1].config.servers(), from)
 }
 
-// The same, once it is known which servers the run before left so. Where the file that has them can't be read or written a line of detail
-// says why.
+// The servers that the last generation brought are to be emptied beside those that the run before left so, where it is new and that is so of new ones:
+// it is written. Where the file that has them can't be read or written a line of detail says why.
 fn note_new<R: Files + Input + AllocGlobal>(
     rt: &R,
     job: &ServeJob<'_>,
@@ -120,7 +120,8 @@ fn last_may_follow<W: Write>(
     Ok(may_follow(alloc, "history", before, last, out)?)
 }
 
-// The same in a fleet of one that came after so many.
+// Whether the last generation of this file, which had so many before, may follow the one before it, where the proxy is one of a fleet and the last one is
+// new. If not, why is printed.
 fn may_follow_last<W: Write>(
     alloc: Global,
     fleet: bool,
@@ -208,7 +209,8 @@ pub fn begin<R: Files + Input + AllocGlobal + Eprint, W: Write>(
     }
 }
 
-/// The same where nothing is to be served, and nothing is written: the exit status of what was printed, if the text may not be served.
+/// Judges a text after the history that is kept, if one is, as where it is to be served; but nothing is served, and nothing is written to the history's
+/// file: the exit status of what was printed, if the text may not be served.
 /// [`Stop::Device`] comes also where the history's folder isn't there, of which a line tells.
 pub fn refused_after<R: Files + Input + AllocGlobal + Eprint, W: Write>(
     rt: &R,

@@ -6,6 +6,7 @@ ghost use Rattle.watch_admin.specs.Told.{command_counts};
 ghost use Rattle.watch_admin.specs.declared.http.request.Page.TheVariants.{Metrics, Stats};
 ghost use Rattle.mcgate_serve.specs.Told.{op_counts, HasTally, IsInPrometheus, IsInJson, TellsInPrometheus, TellsInJson};
 
+use crate::build::IS_PROVED;
 use crate::seen::{LastFailure, Seen};
 use crate::serving::resolve;
 use core_accepted::CoreTally;
@@ -81,6 +82,7 @@ fn process_use<R: Files + AllocGlobal>(rt: &R) -> Used {
 fn clients_of<W: Wire>(end: &ProxyEnd<W>) -> ClientNumbers
     ensures accepted { result.accepted ≡ end.now.core.value.tally.opened }
     ensures refused { result.refused ≡ end.now.core.value.tally.refused }
+    ensures bad_messages { result.bad_messages ≡ end.now.core.value.tally.bad_messages }
 {
     let tally = end.tally();
     let of_core = end.core_tally();
@@ -88,6 +90,8 @@ fn clients_of<W: Wire>(end: &ProxyEnd<W>) -> ClientNumbers
         connected: end.clients() as u64,
         accepted: of_core.opened,
         refused: of_core.refused,
+        bad_messages: of_core.bad_messages,
+        unaccepted: tally.unaccepted,
         read_bytes: tally.read,
         sent_bytes: tally.shown,
     }
@@ -237,6 +241,7 @@ fn server_of<W: Wire>(
         calls_out: link.calls.len() as u64,
         failures: failures_by_cause(alloc, link)?,
         answered: calls.answered,
+        errors: link.calls.errors(),
         failed: calls.failed,
         unsent: link.tally.unsent,
         answer_micros: calls.micros,
@@ -286,6 +291,7 @@ fn numbers_of<R: Files + AllocGlobal, W: Wire>(
     Ok(Numbers {
         process: ProcessNumbers {
             version: String::from_str(rt.alloc(), "1")?,
+            proved: IS_PROVED,
             uptime_ms: times.uptime_ms,
             processor_ms: used.processor_ms,
             resident_bytes: used.resident_bytes,
@@ -406,7 +412,7 @@ fn prometheus_of(alloc: Global, numbers: &Numbers) -> io::Result<Vec<u8>>
     Ok(body)
 }
 
-// The same in JSON.
+// These numbers in JSON, with the line of the last text that was refused.
 fn json_of(alloc: Global, numbers: &Numbers) -> io::Result<Vec<u8>>
     ensures { IfOk result (λ text. IsInJson numbers.now text.items) }
 {

@@ -156,8 +156,7 @@ impl<'a> LoadRun<'a> {
     ) -> Result<LoadRun<'a>, LoadStop> {
         let alloc = rt.alloc();
         let mut wire = Sockets::listen_by(rt, Vec::new(alloc))?;
-        let address = settings.address.as_bytes();
-        wire.resolve(rt, address, address)?;
+        wire.resolve(rt, settings.address.as_bytes())?;
         let peers = connect_all(rt, &mut wire, settings)?;
         Ok(LoadRun {
             settings,

@@ -150,19 +150,19 @@ fn limits_in(value: &Value) -> ServerLimits
 }
 
 // Whether a value of a pool's list names this server.
-fn names(server: &str, value: &Value) -> bool
+fn names(server: &[u8], value: &Value) -> bool
     ensures { result ≡ names server.now (view value.now) }
 {
     match value {
         Value::String(text) => match read_server(text.as_str()) {
-            Some((name, _)) => name == server,
+            Some((name, _)) => name.as_bytes() == server,
             None => false,
         },
         _ => false,
     }
 }
 
-fn any_names(server: &str, items: &[Value]) -> bool
+fn any_names(server: &[u8], items: &[Value]) -> bool
     ensures { result ≡ list_any (names server.now) (values (items_view items.now)) }
 {
     for item in items {
@@ -174,7 +174,7 @@ fn any_names(server: &str, items: &[Value]) -> bool
 }
 
 // Whether a pool's object lists this server.
-fn lists(server: &str, value: &Value) -> bool
+fn lists(server: &[u8], value: &Value) -> bool
     ensures { result ≡ lists server.now (view value.now) }
 {
     match value.get("servers") {
@@ -184,7 +184,7 @@ fn lists(server: &str, value: &Value) -> bool
 }
 
 // What a pool's object says of this server.
-fn said_by(server: &str, value: &Value) -> ServerLimits
+fn said_by(server: &[u8], value: &Value) -> ServerLimits
     ensures { result ≡ limits_said_by server.now (view value.now) }
 {
     let said = limits_in(value);
@@ -196,7 +196,7 @@ fn said_by(server: &str, value: &Value) -> ServerLimits
 }
 
 // What these pools say of this server.
-fn said_of(server: &str, pools: &Map<String, Value>) -> ServerLimits
+fn said_of(server: &[u8], pools: &Map<String, Value>) -> ServerLimits
     ensures { result ≡ limits_said (members (members_view pools.now.entries)) server.now }
 {
     let mut said = ServerLimits::none();
@@ -206,11 +206,11 @@ fn said_of(server: &str, pools: &Map<String, Value>) -> ServerLimits
     said
 }
 
-/// The limits that the pools of a configuration say of a server: of several that list it and say one, the least. Of what is no configuration
+/// The limits that the pools of a configuration say of the server of this name: of several that list it and say one, the least. Of what is no configuration
 /// no limits are said.
 ///
 /// Source: mcgate's own.
-pub fn limits_of(value: &Value, server: &str) -> ServerLimits
+pub fn limits_of(value: &Value, server: &[u8]) -> ServerLimits
     ensures { result ≡ limits_said (pools_said (view value.now)) server.now }
 {
     match value.get("pools") {

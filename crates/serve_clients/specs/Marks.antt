@@ -28,7 +28,7 @@ abbrev pub ids_with : (Client → Bool) → Option Client → ℕ → List ℕ �
 ids_with flag None id ids = ids
 ids_with flag (Some client) id ids = if flag client then ids else ids ++ id ∷ []
 
--- the same where it is so, else these alone
+-- these ids, and where `is` holds, at their end this one, where its client is there and its flag isn't set
 abbrev pub ids_if : Bool → (Client → Bool) → Option Client → ℕ → List ℕ → List ℕ
 ids_if is flag client id ids = if is then ids_with flag client id ids else ids
 
@@ -91,7 +91,7 @@ ready_if reads x = if reads then with_ready true x else x
 abbrev pub unsent_if : Bool → Client → Client
 unsent_if writes x = if writes then with_unsent true x else x
 
--- and after that was noted: what can be read is to be read, and what can be sent and is there is to be sent
+-- the client after what the system told was noted: where something can be read it is to be served, and where something can be sent and is there it has something to send
 abbrev pub noted : Ready → Client → Client
 noted told x = unsent_if (told.writes && has_unsent x) (ready_if told.reads (with_told told x))
 

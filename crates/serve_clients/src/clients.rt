@@ -158,8 +158,8 @@ impl Client {
             .saturating_add(self.input)
     }
 
-    /// Whether something may be read of it. Behind a message that waits nothing is read: the core would move it, byte by byte, when
-    /// that message is done.
+    /// Whether something may be read of it: only where all that was read before went to the core, and it hasn't ended. Nor is anything read
+    /// behind a message that waits, of which no clause tells: the core would move it, byte by byte, when that message is done.
     pub fn can_read(&self) -> bool
         ensures { result ≡ true → (self.now.conn.held.items ≡ []) × (self.now.is_ended ≡ false) }
     {
@@ -197,7 +197,7 @@ impl Client {
         if self.reads_long { LONG_READ } else { READ }
     }
 
-    /// A read gave something.
+    /// A read gave something: how much room the next one has goes by that, and nothing else changes.
     pub fn has_read(&mut self)
         ensures { self.new ≡ record self.old { reads_long = self.new.reads_long } }
     {
@@ -344,7 +344,8 @@ impl Client {
         }
     }
 
-    /// Its connection is gone, or is of no use any more: what is still to be sent is lost. Unless it was broken off before, that is why it goes.
+    /// Its connection is gone, or is of no use any more: what was read and is still held, and what is still to be sent, are lost. Unless it was
+    /// broken off before, that is why it goes.
     pub fn break_off(&mut self, why: Departure)
         ensures broken { Breaks self.old self.new }
     {
@@ -387,7 +388,7 @@ fn mark_ready_at(place: &mut Option<Client>, ids: &mut Vec<usize>, id: usize, is
     }
 }
 
-// It has something to send.
+// The client of this place, if there is one, has something to send.
 fn mark_output_at(place: &mut Option<Client>, ids: &mut Vec<usize>, id: usize, is_short: &mut bool)
     ensures client { place.new ≡ option_map (with_unsent true) place.old }
     ensures listed { is_short.new ≡ false → ids.new.items ≡ ids_with (λ x. x.has_output) place.old id ids.old.items }
@@ -399,7 +400,7 @@ fn mark_output_at(place: &mut Option<Client>, ids: &mut Vec<usize>, id: usize, i
     }
 }
 
-// A command of it waits.
+// A command of the client of this place, if there is one, waits.
 fn mark_busy_at(place: &mut Option<Client>, ids: &mut Vec<usize>, id: usize, is_short: &mut bool)
     ensures client { place.new ≡ option_map (with_busy true) place.old }
     ensures listed { is_short.new ≡ false → ids.new.items ≡ ids_with (λ x. x.is_busy) place.old id ids.old.items }
@@ -411,7 +412,7 @@ fn mark_busy_at(place: &mut Option<Client>, ids: &mut Vec<usize>, id: usize, is_
     }
 }
 
-// A call of it was settled, or has failed.
+// A call of the client of this place, if there is one, was settled, or has failed: the client is to be served.
 fn mark_settled_at(place: &mut Option<Client>, ids: &mut Vec<usize>, id: usize, is_short: &mut bool)
     ensures client { place.new ≡ option_map (λ x. with_ready true (one_settled x)) place.old }
     ensures listed { is_short.new ≡ false → ids.new.items ≡ ids_with (λ x. x.is_ready) place.old id ids.old.items }
@@ -426,7 +427,7 @@ fn mark_settled_at(place: &mut Option<Client>, ids: &mut Vec<usize>, id: usize, 
     }
 }
 
-// A get of it was answered by so many bytes.
+// A get of the client of this place, if there is one, was answered by so many bytes: the client is to be served.
 fn mark_got_at(
     place: &mut Option<Client>,
     ids: &mut Vec<usize>,
@@ -448,7 +449,7 @@ fn mark_got_at(
     }
 }
 
-// A call of it waits no longer.
+// A call of the client of this place, if there is one, waits no longer: the client is to be served.
 fn end_waiting_at(place: &mut Option<Client>, ids: &mut Vec<usize>, id: usize, is_short: &mut bool)
     ensures client { place.new ≡ option_map (λ x. with_ready true (one_waited x)) place.old }
     ensures listed { is_short.new ≡ false → ids.new.items ≡ ids_with (λ x. x.is_ready) place.old id ids.old.items }
@@ -463,7 +464,7 @@ fn end_waiting_at(place: &mut Option<Client>, ids: &mut Vec<usize>, id: usize, i
     }
 }
 
-// A call of it waits.
+// A call of the client of this place, if there is one, waits until its server takes more.
 fn mark_waiting_at(place: &mut Option<Client>)
     ensures { place.new ≡ option_map one_waits place.old }
 {
@@ -472,7 +473,7 @@ fn mark_waiting_at(place: &mut Option<Client>)
     }
 }
 
-// It is ready no longer.
+// The client of this place, if there is one, is ready no longer.
 fn end_ready_at(place: &mut Option<Client>)
     ensures { place.new ≡ option_map (with_ready false) place.old }
 {
@@ -481,7 +482,7 @@ fn end_ready_at(place: &mut Option<Client>)
     }
 }
 
-// It is busy no longer: whether it is there, and isn't ready.
+// The client of this place, if there is one, is busy no longer: whether there is one, and it isn't ready.
 fn end_busy_at(place: &mut Option<Client>) -> bool
     ensures client { place.new ≡ option_map (with_busy false) place.old }
     ensures idle { result ≡ client_is_idle place.old }
@@ -495,7 +496,7 @@ fn end_busy_at(place: &mut Option<Client>) -> bool
     }
 }
 
-// What the system told of its socket: whether something can be sent to it, and is there.
+// What the system told of the socket of this place's client, if there is one: whether something can be sent to it, and is there.
 fn note_at(place: &mut Option<Client>, told: Ready) -> bool
     ensures client { place.new ≡ option_map (with_told told) place.old }
     ensures sends { result ≡ will_send told place.old }
@@ -589,7 +590,8 @@ fn list_marked(all: &Vec<Option<Client>>, mark: Marking, ids: &mut Vec<usize>) -
     true
 }
 
-/// All clients. Each stands once at most in each list.
+/// All clients, by their ids in the core, and lists of the ids of those that are ready, that have something to send, and of which a command
+/// waits. Where memory is refused for a list, [`is_short`](Clients::is_short) tells that one may be missing.
 #[derive(Drop)]
 pub struct Clients {
     all: Vec<Option<Client>>,
@@ -634,7 +636,8 @@ impl Clients {
         self.all.get_mut(id)?.as_mut()
     }
 
-    /// There is one more, of this id, and it is to be served.
+    /// The client of this id is this one from now on, and is to be served. No other client changes. The only error: memory was refused, and
+    /// those that are to be served stay the same.
     pub fn insert(&mut self, id: usize, client: Client) -> Result<(), AllocError>
         ensures there { OnOk result (client_of self.new id ≡ Some (with_ready true client)) }
         ensures listed { OnOk result (self.new.is_short ≡ false → self.new.ready.items ≡ ids_with (λ x. x.is_ready) (Some client) id self.old.ready.items) }
@@ -648,7 +651,7 @@ impl Clients {
         Ok(())
     }
 
-    /// It is gone: the number of its connection, which is to be closed.
+    /// The client of this id is gone: the number of its connection, which is to be closed. Without such a client nothing changes.
     pub fn remove(&mut self, id: usize) -> Option<usize>
         ensures conn { result ≡ option_map (λ x. x.conn.number) (client_of self.old id) }
         ensures gone { self.new.all.items ≡ slice_set self.old.all.items id None }
@@ -660,7 +663,7 @@ impl Clients {
         }
     }
 
-    /// It is to be served.
+    /// The client of this id, if there is one, is to be served: unless it was already, its id comes to the end of those that are.
     pub fn mark_ready(&mut self, id: usize)
         ensures client { Changes (with_ready true) id self.old self.new }
         ensures listed { self.new.is_short ≡ false → self.new.ready.items ≡ ids_with (λ x. x.is_ready) (client_of self.old id) id self.old.ready.items }
@@ -673,7 +676,7 @@ impl Clients {
         }
     }
 
-    /// It has something to send.
+    /// The client of this id, if there is one, has something to send: unless it had already, its id comes to the end of those that have.
     pub fn mark_output(&mut self, id: usize)
         ensures client { Changes (with_unsent true) id self.old self.new }
         ensures listed { self.new.is_short ≡ false → self.new.with_output.items ≡ ids_with (λ x. x.has_output) (client_of self.old id) id self.old.with_output.items }
@@ -686,7 +689,8 @@ impl Clients {
         }
     }
 
-    /// A command of it waits for a key or a server.
+    /// A command of the client of this id, if there is one, waits for a key or a server: unless one did already, its id comes to the end of
+    /// those that wait so.
     pub fn mark_busy(&mut self, id: usize)
         ensures client { Changes (with_busy true) id self.old self.new }
         ensures listed { self.new.is_short ≡ false → self.new.busy.items ≡ ids_with (λ x. x.is_busy) (client_of self.old id) id self.old.busy.items }
@@ -699,7 +703,8 @@ impl Clients {
         }
     }
 
-    /// Those that wait for a key or a server, but for those that are ready too, go after these.
+    /// The ids of those that wait for a key or a server go after these, but for those that are ready too. They wait no longer then. All ends
+    /// stay as they are, for the wire. The only error: memory was refused.
     #[tactic(auto, using(crate::proofs::Agreeing::keeps_none))]
     pub fn move_busy(&mut self, to: &mut Vec<usize>) -> Result<(), AllocError>
         ensures ends { KeepsEnds self.old self.new }
@@ -716,7 +721,7 @@ impl Clients {
         Ok(())
     }
 
-    // One that waits for a key or a server does so no longer, and goes after these if it isn't ready. Where memory is refused for that, nothing changes.
+    // The client of this id waits for a key or a server no longer, and its id goes after these if it isn't ready. Where memory is refused for that, nothing changes.
     #[tactic(auto, using(crate::proofs::Agreeing::moved_keeps))]
     fn move_one(&mut self, id: usize, to: &mut Vec<usize>) -> Result<(), AllocError>
         ensures ends { KeepsEnds self.old self.new }
@@ -731,7 +736,7 @@ impl Clients {
         Ok(())
     }
 
-    // Whether it is there, and isn't ready.
+    // Whether there is a client of this id, and it isn't ready.
     fn is_idle(&self, id: usize) -> bool
         ensures { result ≡ client_is_idle (client_of self.now id) }
     {
@@ -741,7 +746,8 @@ impl Clients {
         }
     }
 
-    /// What was to be sent to it was held back: it has something to send in the next turn too.
+    /// What was to be sent to the client of this id was held back: its id comes to the end of those that have something to send, for the next
+    /// turn.
     pub fn hold_back(&mut self, id: usize)
         ensures listed { self.new.is_short ≡ false → self.new.with_output.items ≡ self.old.with_output.items ++ id ∷ [] }
         ensures short { self.new.is_short ≡ false → self.old.is_short ≡ false }
@@ -767,7 +773,7 @@ impl Clients {
         self.is_short = !(are_ready && are_unsent && are_busy);
     }
 
-    /// It stands no longer among those that are ready.
+    /// The client of this id, if there is one, is marked as ready no longer. The list stays as it is.
     pub fn end_ready(&mut self, id: usize)
         ensures client { Changes (with_ready false) id self.old self.new }
         ensures rest { self.new ≡ record self.old { all = self.new.all } }
@@ -777,7 +783,8 @@ impl Clients {
         }
     }
 
-    /// It stands no longer among those that wait: whether it is to be served for that, as it isn't ready.
+    /// The client of this id, if there is one, is marked as one that waits no longer. The list stays as it is. Whether it is to be served for
+    /// that: whether there is one, and it isn't ready.
     pub fn end_busy(&mut self, id: usize) -> bool
         ensures client { Changes (with_busy false) id self.old self.new }
         ensures idle { result ≡ client_is_idle (client_of self.old id) }
@@ -789,7 +796,7 @@ impl Clients {
         }
     }
 
-    /// A call of it was settled, or has failed.
+    /// A call of the client of this id, if there is one, was settled, or has failed: one of its commands can go on, and it is to be served.
     #[tactic(auto, using(crate::proofs::Agreeing::settled_keeps))]
     pub fn mark_settled(&mut self, id: usize)
         ensures ends { KeepsEnds self.old self.new }
@@ -804,7 +811,7 @@ impl Clients {
         }
     }
 
-    // A get of it was answered by so many bytes.
+    // A get of the client of this id, if there is one, was answered by so many bytes: one of its commands can go on, and it is to be served.
     fn mark_got(&mut self, id: usize, len: usize)
         ensures client { Changes (λ x. with_ready true (one_settled (one_got len x))) id self.old self.new }
         ensures listed { self.new.is_short ≡ false → self.new.ready.items ≡ ids_with (λ x. x.is_ready) (client_of self.old id) id self.old.ready.items }
@@ -817,8 +824,9 @@ impl Clients {
         }
     }
 
-    /// A call of it was settled by an answer of so many bytes. They are held for it until they are shown, if it is to a get; and then the answer to its
-    /// next get is expected to take as many, or a quarter of what was expected of this one where that is more.
+    /// A call of the client of this id, if there is one, was settled by an answer of so many bytes: one of its commands can go on, and it is to be served.
+    /// They are held for it until they are shown, if it is to a get; and then the answer to its next get is expected to take as many, or a quarter of what
+    /// was expected of this one where that is more.
     #[tactic(auto, using(crate::proofs::Agreeing::answered_keeps))]
     pub fn mark_answered(&mut self, id: usize, is_get: bool, len: usize)
         ensures ends { KeepsEnds self.old self.new }
@@ -852,8 +860,8 @@ impl Clients {
         }
     }
 
-    /// How many bytes the answer to its next get is expected to take: much where calls of it are out and none of its gets was answered yet, and nothing is
-    /// known where it is its first call.
+    /// How many bytes the answer to the next get of the client of this id is expected to take: much where calls of it are out and none of its gets was
+    /// answered yet, and nothing is known where it is its first call.
     pub fn expects(&self, id: usize) -> Option<usize> {
         match self.all.get(id) {
             Some(Some(client)) => client.expects(),
@@ -861,7 +869,7 @@ impl Clients {
         }
     }
 
-    /// A call of it waits until its server takes more.
+    /// A call of the client of this id, if there is one, waits until its server takes more.
     pub fn mark_waiting(&mut self, id: usize)
         ensures client { Changes one_waits id self.old self.new }
         ensures rest { self.new ≡ record self.old { all = self.new.all } }
@@ -871,7 +879,7 @@ impl Clients {
         }
     }
 
-    /// A call of it waits no longer.
+    /// A call of the client of this id, if there is one, waits no longer, and the client is to be served.
     #[tactic(auto, using(crate::proofs::Agreeing::waited_keeps))]
     pub fn end_waiting(&mut self, id: usize)
         ensures ends { KeepsEnds self.old self.new }
@@ -886,8 +894,8 @@ impl Clients {
         }
     }
 
-    /// What the system told of its socket is noted beside what it told before, and the client is to be served where something can be read, and has something
-    /// to send where something can be sent and is there.
+    /// What the system told of the socket of the client of this id, if there is one, is noted beside what it told before, and the client is to be served
+    /// where something can be read, and has something to send where something can be sent and is there. No other client changes.
     pub fn note(&mut self, id: usize, told: Ready)
         ensures ends { KeepsEnds self.old self.new }
         ensures client { Changes (noted told) id self.old self.new }
@@ -901,7 +909,7 @@ impl Clients {
         self.mark_output_if(id, sends);
     }
 
-    // What the system told: whether something can be sent to it, and is there.
+    // What the system told of the socket of the client of this id is noted: whether something can be sent to it, and is there.
     fn note_told(&mut self, id: usize, told: Ready) -> bool
         ensures client { Changes (with_told told) id self.old self.new }
         ensures sends { result ≡ will_send told (client_of self.old id) }
@@ -913,7 +921,7 @@ impl Clients {
         }
     }
 
-    // It is to be served, if it is so.
+    // The client of this id, if there is one, is to be served where `reads` holds.
     fn mark_ready_if(&mut self, id: usize, reads: bool)
         ensures client { Changes (ready_if reads) id self.old self.new }
         ensures listed { self.new.is_short ≡ false → self.new.ready.items ≡ ids_if reads (λ x. x.is_ready) (client_of self.old id) id self.old.ready.items }
@@ -925,7 +933,7 @@ impl Clients {
         }
     }
 
-    // It has something to send, if it is so.
+    // The client of this id, if there is one, has something to send where `writes` holds.
     fn mark_output_if(&mut self, id: usize, writes: bool)
         ensures client { Changes (unsent_if writes) id self.old self.new }
         ensures listed { self.new.is_short ≡ false → self.new.with_output.items ≡ ids_if writes (λ x. x.has_output) (client_of self.old id) id self.old.with_output.items }

@@ -6,7 +6,7 @@ use Rattle.serve_links.specs.declared.settings.LinkLimits.{LinkLimits}
 use Rattle.serve_links.specs.declared.link.Link.{Link}
 use Rattle.serve_links.specs.CoreSteps.{Step, Opened, NotOpened, Fed, Polled, Stopped, Settled, Gave, Closed, LeftLine, Broke, Ticked, Loaded, Linked, Asked, Greeted, Spelled, Late, CameLate, Lost, StepsAreOf}
 use Rattle.serve_links.specs.Talks.{IsOfClients, IsOfServer}
-use Rattle.serve_links.specs.Story.{opening_of, address_and_limits, place_of, servers_of, most_of, IsByLimit, KeepsServer, KeepsServers}
+use Rattle.serve_links.specs.Story.{address_and_opened, address_and_limits, server_and_opened, servers_of, most_of, IsByLimit, KeepsServer, KeepsServers}
 use Rattle.serve_links.proofs.Talking.{clients_plain}
 use Rattle.serve_links.proofs.Walked.{of_both}
 use Rattle.serve_links.proofs.Showing.{IsUnlost, plain_unlost}
@@ -75,14 +75,14 @@ pub same_text : (x y : Link) → address_and_limits y ≡ address_and_limits x �
 same_text x y same = ap (λ (s : List ℕ × LinkLimits). s.0) same
 
 -- and since when it has its connection, too
-pub same_place : (x y : Link) → y.text.items ≡ x.text.items → y.limits ≡ x.limits → y.opened ≡ x.opened → place_of y ≡ place_of x
+pub same_place : (x y : Link) → y.text.items ≡ x.text.items → y.limits ≡ x.limits → y.opened ≡ x.opened → server_and_opened y ≡ server_and_opened x
 same_place x y text limits opened =
     ap (λ (s : List ℕ × LinkLimits). let p : (List ℕ × LinkLimits) × ℕ = (s, y.opened) in p) (same_server x y text limits) ∙ ap (λ (t : ℕ). let p : (List ℕ × LinkLimits) × ℕ = (address_and_limits x, t) in p) opened
 
-pub place_server : (x y : Link) → place_of y ≡ place_of x → address_and_limits y ≡ address_and_limits x
+pub place_server : (x y : Link) → server_and_opened y ≡ server_and_opened x → address_and_limits y ≡ address_and_limits x
 place_server x y same = ap (λ (p : (List ℕ × LinkLimits) × ℕ). p.0) same
 
-pub same_opening : (x y : Link) → place_of y ≡ place_of x → opening_of y ≡ opening_of x
+pub same_opening : (x y : Link) → server_and_opened y ≡ server_and_opened x → address_and_opened y ≡ address_and_opened x
 same_opening x y same = ap (λ (p : (List ℕ × LinkLimits) × ℕ). let o : List ℕ × ℕ = (p.0.0, p.1) in o) same
 
 -- one after another

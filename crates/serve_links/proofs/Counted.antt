@@ -7,7 +7,7 @@ use Rattle.core_accepted.specs.declared.served.ServedCore.{ServedCore}
 use Rattle.serve_links.specs.declared.calls.times.CallTimes.{CallTimes}
 use Rattle.serve_links.specs.declared.calls.calls.SentCall.{SentCall}
 use Rattle.serve_links.specs.Calls.{SettlesFirst}
-use Rattle.serve_links.specs.Counting.{took, with_answer, with_call_outcome, with_first}
+use Rattle.serve_links.specs.Counting.{took, with_answer, with_call_outcome, with_first, with_outcome_error, with_first_error}
 
 pub took_first : (old new : List ℕ) (went came : ℕ) → old ≡ went ∷ new → came - went ≡ took old came
 took_first old new went came e = sym (ap (λ xs. took xs came) e)
@@ -20,6 +20,12 @@ counts_first old new call outcome times e = sym (ap (λ xs. with_first xs outcom
 
 pub counts_none : (old : List SentCall) (outcome : Outcome) (times : CallTimes) → old ≡ [] → times.tally ≡ with_first old outcome times
 counts_none old outcome times e = sym (ap (λ xs. with_first xs outcome times) e)
+
+pub error_first : (old new : List SentCall) (call : SentCall) (outcome : Outcome) (errors : ℕ) → old ≡ call ∷ new → with_outcome_error outcome errors ≡ with_first_error old outcome errors
+error_first old new call outcome errors e = sym (ap (λ xs. with_first_error xs outcome errors) e)
+
+pub error_none : (old : List SentCall) (outcome : Outcome) (errors : ℕ) → old ≡ [] → errors ≡ with_first_error old outcome errors
+error_none old outcome errors e = sym (ap (λ xs. with_first_error xs outcome errors) e)
 
 -- the call that was answered is the first of those that were out
 pub counts_answered :

@@ -20,11 +20,11 @@ use Rattle.core_commands.specs.declared.ticket.Ticket.{Ticket}
 use Rattle.core_accepted.specs.declared.served.ServedCore.{ServedCore}
 use Rattle.core_accepted.specs.declared.tally.CoreTally.{CoreTally}
 use Rattle.core_accepted.specs.Results.{PollStops, SettleStops, IsSettled}
-use Rattle.core_accepted.specs.Tallies.{ReplyKind, TellsError, ShowsItem, Acknowledges, TellsOther, reply_kind, one_more, more_at, with_reply, with_note, with_poll, with_call, with_outcome, with_client, with_refusal, nothing_done, of_op}
+use Rattle.core_accepted.specs.Tallies.{ReplyKind, TellsError, ShowsItem, Acknowledges, TellsOther, reply_kind, one_more, more_at, with_reply, with_note, with_poll, with_call, with_bad_message, with_outcome, with_client, with_refusal, nothing_done, of_op}
 use Rattle.serve_links.specs.CoreSteps.{Step, Opened, NotOpened, Fed, Polled, Stopped, Settled, Gave, Closed, LeftLine, Loaded, Spelled, Does, Walks}
 use Rattle.serve_links.specs.Called.{call_in, TellsCallsOut}
 use Rattle.serve_links.specs.Talks.{MayComeNext, IsOrderly}
-use Rattle.serve_links.specs.Counts.{number_of, counted, same_kind, opens_one, refuses_one, ends_one, ends_so, calls_one, answers_one, fails_one, count_of, AreCounted, ResultsAreCounted, StepsAreCounted}
+use Rattle.serve_links.specs.Counts.{number_of, counted, same_kind, opens_one, refuses_one, refuses_message, ends_one, ends_so, calls_one, answers_one, fails_one, count_of, AreCounted, ResultsAreCounted, StepsAreCounted}
 use Rattle.serve_links.proofs.Called.{walks_tell_calls}
 
 -- ---- one more
@@ -93,11 +93,11 @@ ended_counted TellsOther done n tally was = one_more_counted n tally.ended was
 others_kept :
     (said : ReplyKind) (done : Op) (tally : CoreTally)
     → ((with_reply said done tally).opened ≡ tally.opened) × ((with_reply said done tally).refused ≡ tally.refused) × ((with_reply said done tally).calls ≡ tally.calls)
-    × ((with_reply said done tally).answered ≡ tally.answered) × ((with_reply said done tally).failed ≡ tally.failed)
-others_kept TellsError done tally = (refl, refl, refl, refl, refl)
-others_kept ShowsItem done tally = (refl, refl, refl, refl, refl)
-others_kept Acknowledges done tally = (refl, refl, refl, refl, refl)
-others_kept TellsOther done tally = (refl, refl, refl, refl, refl)
+    × ((with_reply said done tally).answered ≡ tally.answered) × ((with_reply said done tally).failed ≡ tally.failed) × ((with_reply said done tally).bad_messages ≡ tally.bad_messages)
+others_kept TellsError done tally = (refl, refl, refl, refl, refl, refl)
+others_kept ShowsItem done tally = (refl, refl, refl, refl, refl, refl)
+others_kept Acknowledges done tally = (refl, refl, refl, refl, refl, refl)
+others_kept TellsOther done tally = (refl, refl, refl, refl, refl, refl)
 
 -- ---- one step
 
@@ -107,11 +107,12 @@ not_so is step past e = sym (ap (λ b. counted (if b then number_of is past + 1 
 
 -- of a step by which nothing is counted
 kept :
-    (step : Step) (past : List Step) (old new : CoreTally) → opens_one step ≡ false → refuses_one step ≡ false → ends_one step ≡ false → calls_one step ≡ false → ((op : Op) (kind : ReplyKind) → ends_so op kind step ≡ false) → new ≡ old
+    (step : Step) (past : List Step) (old new : CoreTally) → opens_one step ≡ false → refuses_one step ≡ false → refuses_message step ≡ false → ends_one step ≡ false → calls_one step ≡ false → ((op : Op) (kind : ReplyKind) → ends_so op kind step ≡ false) → new ≡ old
     → AreCounted past old → AreCounted (step ∷ past) new
-kept step past old new none_opened none_refused none_ended none_called none_so same was = subst (AreCounted (step ∷ past)) (sym same) (record {
+kept step past old new none_opened none_refused none_bad none_ended none_called none_so same was = subst (AreCounted (step ∷ past)) (sym same) (record {
   opened = was.opened ∙ not_so opens_one step past none_opened;
   refused = was.refused ∙ not_so refuses_one step past none_refused;
+  bad_messages = was.bad_messages ∙ not_so refuses_message step past none_bad;
   ended = was.ended ∙ not_so ends_one step past none_ended;
   calls = was.calls ∙ not_so calls_one step past none_called;
   replies = λ op kind. was.replies op kind ∙ not_so (ends_so op kind) step past (none_so op kind);
@@ -122,6 +123,7 @@ opened : (client : ℕ) (past : List Step) (old new : CoreTally) → new ≡ wit
 opened client past old new is was = subst (AreCounted (Opened client ∷ past)) (sym is) (record {
   opened = one_more_counted (number_of opens_one past) old.opened was.opened;
   refused = was.refused;
+  bad_messages = was.bad_messages;
   ended = was.ended;
   calls = was.calls;
   replies = λ op kind. was.replies op kind;
@@ -132,6 +134,7 @@ not_opened : (fault : CoreFault) (past : List Step) (old new : CoreTally) → ne
 not_opened fault past old new is was = subst (AreCounted (NotOpened fault ∷ past)) (sym is) (record {
   opened = was.opened;
   refused = one_more_counted (number_of refuses_one past) old.refused was.refused;
+  bad_messages = was.bad_messages;
   ended = was.ended;
   calls = was.calls;
   replies = λ op kind. was.replies op kind;
@@ -142,6 +145,7 @@ did : (client : ℕ) (note : Note) (past : List Step) (old new : CoreTally) → 
 did client note past old new is was = subst (AreCounted (Polled client (polls.Did note) ∷ past)) (sym is) (record {
   opened = (others_kept (reply_kind note) note.ask.op old).0 ∙ was.opened;
   refused = (others_kept (reply_kind note) note.ask.op old).1 ∙ was.refused;
+  bad_messages = (others_kept (reply_kind note) note.ask.op old).5 ∙ was.bad_messages;
   ended = ended_counted (reply_kind note) note.ask.op (number_of ends_one past) old was.ended;
   calls = (others_kept (reply_kind note) note.ask.op old).2 ∙ was.calls;
   replies = λ op kind. reply_counted (reply_kind note) kind note.ask.op op (number_of (ends_so op kind) past) old was.places (was.replies op kind);
@@ -164,8 +168,20 @@ called_out : (client : ℕ) (ticket : Ticket) (past : List Step) (old new : Core
 called_out client ticket past old new is was = subst (AreCounted (Polled client (polls.Call ticket) ∷ past)) (sym is) (record {
   opened = was.opened;
   refused = was.refused;
+  bad_messages = was.bad_messages;
   ended = was.ended;
   calls = one_more_counted (number_of calls_one past) old.calls was.calls;
+  replies = λ op kind. was.replies op kind;
+  places = was.places;
+})
+
+refused_message : (client : ℕ) (past : List Step) (old new : CoreTally) → new ≡ with_bad_message old → AreCounted past old → AreCounted (Polled client polls.Refused ∷ past) new
+refused_message client past old new is was = subst (AreCounted (Polled client polls.Refused ∷ past)) (sym is) (record {
+  opened = was.opened;
+  refused = was.refused;
+  bad_messages = one_more_counted (number_of refuses_message past) old.bad_messages was.bad_messages;
+  ended = was.ended;
+  calls = was.calls;
   replies = λ op kind. was.replies op kind;
   places = was.places;
 })
@@ -174,10 +190,10 @@ called_out client ticket past old new is was = subst (AreCounted (Polled client 
 had : (number : ℕ) (outcome : Outcome) (past : List Step) (old new : CoreTally) → new ≡ with_outcome outcome old → AreCounted past old → AreCounted (Settled number outcome ∷ past) new
 had number (Answered answer) past old new is was =
     subst (AreCounted (Settled number (Answered answer) ∷ past)) (sym is)
-    (record { opened = was.opened; refused = was.refused; ended = was.ended; calls = was.calls; replies = λ op kind. was.replies op kind; places = was.places })
+    (record { opened = was.opened; refused = was.refused; bad_messages = was.bad_messages; ended = was.ended; calls = was.calls; replies = λ op kind. was.replies op kind; places = was.places })
 had number Failed past old new is was =
     subst (AreCounted (Settled number Failed ∷ past)) (sym is)
-    (record { opened = was.opened; refused = was.refused; ended = was.ended; calls = was.calls; replies = λ op kind. was.replies op kind; places = was.places })
+    (record { opened = was.opened; refused = was.refused; bad_messages = was.bad_messages; ended = was.ended; calls = was.calls; replies = λ op kind. was.replies op kind; places = was.places })
 
 settle_stopped :
     (number : ℕ) (outcome : Outcome) (fault : CoreFault) (past : List Step) (a b : ServedCore) → SettleStops a number outcome fault b → AreCounted past a.tally → AreCounted (Settled number outcome ∷ past) b.tally
@@ -187,7 +203,7 @@ settle_stopped number outcome faults.Spent past a b stops was = absurd stops
 settle_stopped number outcome faults.TooManyClients past a b stops was = absurd stops
 settle_stopped number outcome faults.InputFull past a b stops was = absurd stops
 settle_stopped number outcome faults.UnderWay past a b stops was = absurd stops
-settle_stopped number outcome faults.NoTicket past a b stops was = kept (Settled number outcome) past a.tally b.tally refl refl refl refl (λ op kind. refl) (tally_same a b stops.1) was
+settle_stopped number outcome faults.NoTicket past a b stops was = kept (Settled number outcome) past a.tally b.tally refl refl refl refl refl (λ op kind. refl) (tally_same a b stops.1) was
 
 settled : (number : ℕ) (outcome : Outcome) (past : List Step) (a b : ServedCore) → IsSettled a number outcome b → AreCounted past a.tally → AreCounted (Settled number outcome ∷ past) b.tally
 settled number outcome past a b (inl takes) was = had number outcome past a.tally b.tally takes.tally was
@@ -195,28 +211,28 @@ settled number outcome past a b (inr stops) was = settle_stopped number outcome 
 
 polled : (client : ℕ) (poll : Poll) (past : List Step) (a b : ServedCore) → Does (Polled client poll) a b → AreCounted past a.tally → AreCounted (Polled client poll ∷ past) b.tally
 polled client (polls.Did note) past a b does was = did client note past a.tally b.tally does.1.tally was
-polled client polls.Idle past a b does was = kept (Polled client polls.Idle) past a.tally b.tally refl refl refl refl (λ op kind. refl) does.1.tally was
-polled client polls.Own past a b does was = kept (Polled client polls.Own) past a.tally b.tally refl refl refl refl (λ op kind. refl) does.1.tally was
-polled client polls.Refused past a b does was = kept (Polled client polls.Refused) past a.tally b.tally refl refl refl refl (λ op kind. refl) does.1.tally was
+polled client polls.Idle past a b does was = kept (Polled client polls.Idle) past a.tally b.tally refl refl refl refl refl (λ op kind. refl) does.1.tally was
+polled client polls.Own past a b does was = kept (Polled client polls.Own) past a.tally b.tally refl refl refl refl refl (λ op kind. refl) does.1.tally was
+polled client polls.Refused past a b does was = refused_message client past a.tally b.tally does.1.tally was
 polled client (polls.Call ticket) past a b does was = called_out client ticket past a.tally b.tally does.1.tally was
-polled client polls.Waiting past a b does was = kept (Polled client polls.Waiting) past a.tally b.tally refl refl refl refl (λ op kind. refl) does.1.tally was
-polled client polls.Queued past a b does was = kept (Polled client polls.Queued) past a.tally b.tally refl refl refl refl (λ op kind. refl) does.1.tally was
-polled client polls.Busy past a b does was = kept (Polled client polls.Busy) past a.tally b.tally refl refl refl refl (λ op kind. refl) does.1.tally was
+polled client polls.Waiting past a b does was = kept (Polled client polls.Waiting) past a.tally b.tally refl refl refl refl refl (λ op kind. refl) does.1.tally was
+polled client polls.Queued past a b does was = kept (Polled client polls.Queued) past a.tally b.tally refl refl refl refl refl (λ op kind. refl) does.1.tally was
+polled client polls.Busy past a b does was = kept (Polled client polls.Busy) past a.tally b.tally refl refl refl refl refl (λ op kind. refl) does.1.tally was
 
 -- (of all others the core is as it was)
 step_counted : (step : Step) (past : List Step) (a b : ServedCore) → Does step a b → AreCounted past a.tally → AreCounted (step ∷ past) b.tally
 step_counted (Opened client) past a b does was = opened client past a.tally b.tally does.2.tally was
 step_counted (NotOpened fault) past a b does was = not_opened fault past a.tally b.tally does.1.tally was
-step_counted (Fed client piece) past a b does was = kept (Fed client piece) past a.tally b.tally refl refl refl refl (λ op kind. refl) does.2.tally was
+step_counted (Fed client piece) past a b does was = kept (Fed client piece) past a.tally b.tally refl refl refl refl refl (λ op kind. refl) does.2.tally was
 step_counted (Polled client poll) past a b does was = polled client poll past a b does was
-step_counted (Stopped client fault) past a b does was = kept (Stopped client fault) past a.tally b.tally refl refl refl refl (λ op kind. refl) (stopped_same client fault a b does.1) was
+step_counted (Stopped client fault) past a b does was = kept (Stopped client fault) past a.tally b.tally refl refl refl refl refl (λ op kind. refl) (stopped_same client fault a b does.1) was
 step_counted (Settled number outcome) past a b does was = settled number outcome past a b does was
-step_counted (Gave client bytes) past a b does was = kept (Gave client bytes) past a.tally b.tally refl refl refl refl (λ op kind. refl) does.1.tally was
-step_counted (Closed client) past a b does was = kept (Closed client) past a.tally b.tally refl refl refl refl (λ op kind. refl) does.2.tally was
-step_counted (LeftLine client) past a b does was = kept (LeftLine client) past a.tally b.tally refl refl refl refl (λ op kind. refl) does.1.tally was
-step_counted (Loaded configuration generation) past a b does was = kept (Loaded configuration generation) past a.tally b.tally refl refl refl refl (λ op kind. refl) does.tally was
-step_counted (Spelled at number ask answer bytes) past a b does was = kept (Spelled at number ask answer bytes) past a.tally b.tally refl refl refl refl (λ op kind. refl) (tally_same a b does.0) was
-step_counted step past a b does was = kept step past a.tally b.tally refl refl refl refl (λ op kind. refl) (tally_same a b does) was
+step_counted (Gave client bytes) past a b does was = kept (Gave client bytes) past a.tally b.tally refl refl refl refl refl (λ op kind. refl) does.1.tally was
+step_counted (Closed client) past a b does was = kept (Closed client) past a.tally b.tally refl refl refl refl refl (λ op kind. refl) does.2.tally was
+step_counted (LeftLine client) past a b does was = kept (LeftLine client) past a.tally b.tally refl refl refl refl refl (λ op kind. refl) does.1.tally was
+step_counted (Loaded configuration generation) past a b does was = kept (Loaded configuration generation) past a.tally b.tally refl refl refl refl refl (λ op kind. refl) does.tally was
+step_counted (Spelled at number ask answer bytes) past a b does was = kept (Spelled at number ask answer bytes) past a.tally b.tally refl refl refl refl refl (λ op kind. refl) (tally_same a b does.0) was
+step_counted step past a b does was = kept step past a.tally b.tally refl refl refl refl refl (λ op kind. refl) (tally_same a b does) was
 
 -- ---- all of them
 
@@ -321,7 +337,7 @@ none_counted op TellsOther = none_at op
 
 pub steps_are_counted : StepsAreCounted
 steps_are_counted = record {
-  begins = record { opened = refl; refused = refl; ended = refl; calls = refl; replies = none_counted; places = (refl, refl, refl, refl) };
+  begins = record { opened = refl; refused = refl; bad_messages = refl; ended = refl; calls = refl; replies = none_counted; places = (refl, refl, refl, refl) };
   goes_on = walk_counted;
   results_begin = record { answered = refl; failed = refl };
   results_go_on = walk_results;

@@ -26,7 +26,7 @@ use Rattle.serve_links.specs.Lateness.{IsLate, HasLate, HasOneLate, awaits_store
 use Rattle.serve_links.specs.CoreSteps.{Step, Settled, Late, CameLate, IsOfTurn, IsSending}
 use Rattle.serve_links.specs.Dialects.{SpellsIn}
 use Rattle.serve_links.specs.Talks.{SaidAsk, Talk, HasWaited, behind, first_of_asks, turned_late, with_late, talk_in, IsNotAmong, AreDue, AreCalled, MaySettle, IsOrderly, IsFirstOut, IsNextLate}
-use Rattle.serve_links.specs.Story.{said_asks, said_late, MayAllGo, TalkAgrees, LineAgrees, LineGoes, opening_of, place_of, LineState, line_of}
+use Rattle.serve_links.specs.Story.{said_asks, said_late, MayAllGo, TalkAgrees, LineAgrees, LineGoes, address_and_opened, server_and_opened, LineState, line_of}
 use Rattle.serve_links.proofs.Talking.{calls_later}
 use Rattle.serve_links.proofs.Due.{due_stays, called_stays, keeps_settled, SentGone, sent_gone, own_nowhere}
 use Rattle.serve_links.proofs.ByLimits.{place_server, same_opening}
@@ -47,7 +47,7 @@ conn_state c = (c.number, c.held.items, bytes_of c.unsent)
 pub late_kept : (x y : Link) → y ≡ record x { late = y.late } → y.late.items ≡ x.late.items → line_of y ≡ line_of x
 late_kept x y is late =
     ap line_of is
-    ∙ ap (λ (l : List LateCall). let s : LineState = (place_of x, option_map {U = ℕ × List ℕ × List ℕ} conn_state x.conn, said_asks x.calls.sent.items, x.waiting.items, x.awaits_dialect, x.dialect, said_late l, drain_of x) in s) late
+    ∙ ap (λ (l : List LateCall). let s : LineState = (server_and_opened x, option_map {U = ℕ × List ℕ × List ℕ} conn_state x.conn, said_asks x.calls.sent.items, x.waiting.items, x.awaits_dialect, x.dialect, said_late l, drain_of x) in s) late
 
 pub some_conn : (o : Option Conn) → is_some o ≡ true → (c : Conn) × (o ≡ Some c)
 some_conn None is = absurd (false_true is)
@@ -167,7 +167,7 @@ talk_turns h at begun t c held unsent first rest late awaits dialect was = recor
 
 -- the first call that is out fails, and keeps its place
 turns :
-    {at : ℕ} {core core' : ServedCore} {h : List WireEvent} (x y : Link) (c : Conn) (call : SentCall) (rest : List SentCall) → x.conn ≡ Some c → y.conn ≡ x.conn → y.draining ≡ x.draining → place_of y ≡ place_of x → y.waiting.items ≡ x.waiting.items
+    {at : ℕ} {core core' : ServedCore} {h : List WireEvent} (x y : Link) (c : Conn) (call : SentCall) (rest : List SentCall) → x.conn ≡ Some c → y.conn ≡ x.conn → y.draining ≡ x.draining → server_and_opened y ≡ server_and_opened x → y.waiting.items ≡ x.waiting.items
     → y.awaits_dialect ≡ x.awaits_dialect → y.dialect ≡ x.dialect → x.calls.sent.items ≡ call ∷ rest → y.calls.sent.items ≡ rest → y.late.items ≡ x.late.items ++ as_late call ∷ []
     → IsSettled core call.ticket.number Failed core' → HasOneLate (time h) x → LineGoes IsSending at core h x core' h y
 turns {at} {core} {core'} {h} x y c call rest was same draining place waiting awaits speaks sent left late settled waited = record {
@@ -215,14 +215,14 @@ turns {at} {core} {core'} {h} x y c call rest was same draining place waiting aw
     agreed past a =
         let talk = ap (λ b. if b then turned_late (talk_in past at) else talk_in past at) (equal at) in
         let before = talk_as refl refl refl refl refl (sym (ap said_asks sent)) refl refl refl (a.conn c was) in
-        let now = talk_turns h at (opening_of x) (talk_in past at) c.number c.held.items (bytes_of c.unsent) (call.ticket.number, call.dialect, call.ticket.ask, call.since) (said_asks rest) (said_late x.late.items) x.awaits_dialect x.dialect before in
+        let now = talk_turns h at (address_and_opened x) (talk_in past at) c.number c.held.items (bytes_of c.unsent) (call.ticket.number, call.dialect, call.ticket.ask, call.since) (said_asks rest) (said_late x.late.items) x.awaits_dialect x.dialect before in
         has_conn at (steps ++ past) h y c (same ∙ was) (talk_as (same_opening x y place) talk refl refl refl (ap said_asks left) awaits speaks (ap said_late late ∙ one_more_late x.late.items (as_late call)) now) (a.goes_on c was)
         (calls_later steps past at y.waiting.items (subst (λ w. MayAllGo past at w) (sym waiting) a.waiting))
         (subst (λ w. AreDue (steps ++ past) at (said_asks w)) (sym waiting) (others past a).due) (subst (λ (l : List SentCall). AreCalled (steps ++ past) at (said_asks l)) (sym left) (others past a).called)
 
 -- the same of the outcome as a link's calls have it
 pub line_turns :
-    {at : ℕ} {core core' : ServedCore} {h : List WireEvent} (x y : Link) (c : Conn) (call : LateCall) (client : Option ℕ) → x.conn ≡ Some c → y.conn ≡ x.conn → y.draining ≡ x.draining → place_of y ≡ place_of x → y.waiting.items ≡ x.waiting.items
+    {at : ℕ} {core core' : ServedCore} {h : List WireEvent} (x y : Link) (c : Conn) (call : LateCall) (client : Option ℕ) → x.conn ≡ Some c → y.conn ≡ x.conn → y.draining ≡ x.draining → server_and_opened y ≡ server_and_opened x → y.waiting.items ≡ x.waiting.items
     → y.awaits_dialect ≡ x.awaits_dialect → y.dialect ≡ x.dialect → IsFirstLate x.calls.sent.items (Some call) → y.late.items ≡ x.late.items ++ call ∷ []
     → SettlesFirst x.calls.sent.items core Failed client y.calls.sent.items core' → HasOneLate (time h) x → LineGoes IsSending at core h x core' h y
 line_turns {at} {core} {core'} {h} x y c call client was same draining place waiting awaits speaks first late settles waited = by x.calls.sent.items refl first settles
@@ -257,7 +257,7 @@ talk_throws h at begun t c spelled held unsent out first rest awaits dialect was
 -- what is held begins with the answer to the first of those that were late: it is held no more
 pub line_throws :
     {at : ℕ} {core : ServedCore} {h : List WireEvent} (x y : Link) (c d : Conn) (call : LateCall) (rest : List LateCall) (answer : Answer) (used : ℕ) → x.conn ≡ Some c → y.conn ≡ Some d → x.awaits_dialect ≡ None
-    → place_of y ≡ place_of x → y.waiting.items ≡ x.waiting.items → y.awaits_dialect ≡ x.awaits_dialect → y.dialect ≡ x.dialect → y.calls.sent.items ≡ x.calls.sent.items → x.late.items ≡ call ∷ rest → y.late.items ≡ rest
+    → server_and_opened y ≡ server_and_opened x → y.waiting.items ≡ x.waiting.items → y.awaits_dialect ≡ x.awaits_dialect → y.dialect ≡ x.dialect → y.calls.sent.items ≡ x.calls.sent.items → x.late.items ≡ call ∷ rest → y.late.items ≡ rest
     → SpellsIn call.dialect call.ask c.held.items answer used → d.held.items ≡ drop used c.held.items → d.number ≡ c.number → bytes_of d.unsent ≡ bytes_of c.unsent → LineGoes IsOfTurn at core h x core h y
 line_throws {at} {core} {h} x y c d call rest answer used was is off place waiting awaits speaks sent late left spells held number unsent = record {
   steps = step ∷ [];
@@ -294,7 +294,7 @@ line_throws {at} {core} {h} x y c d call rest answer used was is off place waiti
     agreed past a =
         let talk = ap (λ b. if b then with_late spelled (talk_in past at) else talk_in past at) (equal at) in
         let before = talk_as refl refl refl whole refl refl refl refl (sym (ap said_late late)) (a.conn c was) in
-        let now = talk_throws h at (opening_of x) (talk_in past at) c.number spelled d.held.items (bytes_of c.unsent) (said_asks x.calls.sent.items) (call.number, call.dialect, call.ask, call.since) (said_late rest) x.awaits_dialect x.dialect before in
+        let now = talk_throws h at (address_and_opened x) (talk_in past at) c.number spelled d.held.items (bytes_of c.unsent) (said_asks x.calls.sent.items) (call.number, call.dialect, call.ask, call.since) (said_late rest) x.awaits_dialect x.dialect before in
         has_conn at (step ∷ past) h y d is (talk_as (same_opening x y place) talk number refl unsent (ap said_asks sent) awaits speaks (ap said_late left) now) (ap (λ n. is_over n h) number ∙ a.goes_on c was)
         (calls_later (step ∷ []) past at y.waiting.items (subst (λ w. MayAllGo past at w) (sym waiting) a.waiting))
         (due_stays past (step ∷ past) at (said_asks y.waiting.items) (λ n ask is. (refl, refl, refl)) (subst (λ w. AreDue past at (said_asks w)) (sym waiting) a.due))
@@ -302,7 +302,7 @@ line_throws {at} {core} {h} x y c d call rest answer used was is off place waiti
 
 -- or it isn't there
 passes_none :
-    {at : ℕ} {core : ServedCore} {h : List WireEvent} (x y : Link) (c d : Conn) → x.conn ≡ Some c → y.conn ≡ Some d → place_of y ≡ place_of x → y.waiting.items ≡ x.waiting.items → y.awaits_dialect ≡ x.awaits_dialect
+    {at : ℕ} {core : ServedCore} {h : List WireEvent} (x y : Link) (c d : Conn) → x.conn ≡ Some c → y.conn ≡ Some d → server_and_opened y ≡ server_and_opened x → y.waiting.items ≡ x.waiting.items → y.awaits_dialect ≡ x.awaits_dialect
     → y.dialect ≡ x.dialect → y.draining ≡ x.draining → y.calls.sent.items ≡ x.calls.sent.items → d ≡ record c { held = d.held } → (y.late.items ≡ x.late.items) × (d.held.items ≡ c.held.items) → LineGoes IsOfTurn at core h x core h y
 passes_none {h = h} x y c d was is place waiting awaits speaks draining sent same kept = line_keeps (quiet h) (of_eight place ends (ap said_asks sent) waiting awaits speaks (ap said_late kept.0) (ap (option_map (λ (z : Conn). z.number)) draining))
   where
@@ -312,7 +312,7 @@ passes_none {h = h} x y c d was is place waiting awaits speaks draining sent sam
         ∙ ap (λ (l : List ℕ). let e : ℕ × List ℕ × List ℕ = (c.number, l, bytes_of c.unsent) in Some e) kept.1 ∙ sym (ap (option_map {U = ℕ × List ℕ × List ℕ} conn_state) was)
 
 pub line_passes :
-    {at : ℕ} {core : ServedCore} {h : List WireEvent} (x y : Link) (c d : Conn) (read : LateRead) → x.conn ≡ Some c → y.conn ≡ Some d → x.awaits_dialect ≡ None → place_of y ≡ place_of x → y.waiting.items ≡ x.waiting.items
+    {at : ℕ} {core : ServedCore} {h : List WireEvent} (x y : Link) (c d : Conn) (read : LateRead) → x.conn ≡ Some c → y.conn ≡ Some d → x.awaits_dialect ≡ None → server_and_opened y ≡ server_and_opened x → y.waiting.items ≡ x.waiting.items
     → y.awaits_dialect ≡ x.awaits_dialect → y.dialect ≡ x.dialect → y.draining ≡ x.draining → y.calls.sent.items ≡ x.calls.sent.items → d ≡ record c { held = d.held } → PassesOver x.late.items c.held.items read y.late.items d.held.items
     → LineGoes IsOfTurn at core h x core h y
 line_passes x y c d (lates.Whole used) was is off place waiting awaits speaks draining sent same passes =

@@ -30,7 +30,7 @@ use Rattle.serve_links.specs.Settled.{SettlesSome}
 use Rattle.serve_links.specs.Talks.{SaidAsk, Talk, Apart, Ending, standing_after, first_talk, with_ask, greeted, given_up, talk_in, AreDue, AreCalled, IsOrderly, IsOfServer}
 use Rattle.serve_links.specs.Called.{TellsCallsOut}
 use Rattle.serve_links.proofs.Called.{walks_tell_calls}
-use Rattle.serve_links.specs.Story.{said_asks, said_late, MayGo, MayAllGo, TalkAgrees, Unused, ConnAgrees, LineAgrees, LineLost, LineFails, ShowsWhy, WasShown, StepsAreShown, LineCalled, opening_of, address_and_limits, place_of, LineState, line_of, KeepsOthers, LeavesCalls, LineGoesFrom, LineGoes}
+use Rattle.serve_links.specs.Story.{said_asks, said_late, MayGo, MayAllGo, TalkAgrees, Unused, ConnAgrees, LineAgrees, LineLost, LineFails, ShowsWhy, WasShown, StepsAreShown, LineCalled, address_and_opened, address_and_limits, server_and_opened, LineState, line_of, KeepsOthers, LeavesCalls, LineGoesFrom, LineGoes}
 use Rattle.serve_links.proofs.Talking.{calls_later, one_more, IsPlain, plain_talk, AreOut, sent_out, waiting_out, FailsInOrder, fail_in_order}
 use Rattle.serve_links.proofs.Due.{due_stays, called_stays, leaves_twice, due_last, called_last, due_behind, due_taken, SentGone, sent_gone, waiting_gone, AskedOne, asked_one}
 use Rattle.serve_links.proofs.Walked.{walked, of_both}
@@ -163,7 +163,7 @@ OfLine at past h s = OfConn at past h (s.0.0.0, s.0.1) s.2 s.4 s.5 s.6 s.7 s.1 �
 to_line : (at : ℕ) (past : List Step) (h : List WireEvent) (x : Link) → LineAgrees at past h x → OfLine at past h (line_of x)
 to_line at past h x a = (by x.conn refl, a.waiting, a.due, a.called)
   where
-    by : (o : Option Conn) → x.conn ≡ o → OfConn at past h (opening_of x) (said_asks x.calls.sent.items) x.awaits_dialect x.dialect (said_late x.late.items) (drain_of x) (option_map (λ (c : Conn). (c.number, c.held.items, bytes_of c.unsent)) o)
+    by : (o : Option Conn) → x.conn ≡ o → OfConn at past h (address_and_opened x) (said_asks x.calls.sent.items) x.awaits_dialect x.dialect (said_late x.late.items) (drain_of x) (option_map (λ (c : Conn). (c.number, c.held.items, bytes_of c.unsent)) o)
     by None e = (a.none_out e, a.unused e)
     by (Some c) e = (a.conn c e, a.goes_on c e)
 
@@ -171,10 +171,10 @@ from_line : (at : ℕ) (past : List Step) (h : List WireEvent) (y : Link) → Of
 from_line at past h y o = record { conn = λ conn is. (there conn is).0; goes_on = λ conn is. (there conn is).1; waiting = o.1; due = o.2; none_out = λ none. (there_none none).0; unused = λ none. (there_none none).1; called = o.3 }
   where
     there : (conn : Conn) → y.conn ≡ Some conn → ConnAgrees at past h y conn conn.held.items × (is_over conn.number h ≡ false)
-    there conn is = subst (λ (q : Option Conn). OfConn at past h (opening_of y) (said_asks y.calls.sent.items) y.awaits_dialect y.dialect (said_late y.late.items) (drain_of y) (option_map (λ (c : Conn). (c.number, c.held.items, bytes_of c.unsent)) q)) is o.0
+    there conn is = subst (λ (q : Option Conn). OfConn at past h (address_and_opened y) (said_asks y.calls.sent.items) y.awaits_dialect y.dialect (said_late y.late.items) (drain_of y) (option_map (λ (c : Conn). (c.number, c.held.items, bytes_of c.unsent)) q)) is o.0
 
     there_none : y.conn ≡ None → ((talk_in past at).out ≡ []) × Unused h at y.text.items (talk_in past at) (drain_of y)
-    there_none none = subst (λ (q : Option Conn). OfConn at past h (opening_of y) (said_asks y.calls.sent.items) y.awaits_dialect y.dialect (said_late y.late.items) (drain_of y) (option_map (λ (c : Conn). (c.number, c.held.items, bytes_of c.unsent)) q)) none o.0
+    there_none none = subst (λ (q : Option Conn). OfConn at past h (address_and_opened y) (said_asks y.calls.sent.items) y.awaits_dialect y.dialect (said_late y.late.items) (drain_of y) (option_map (λ (c : Conn). (c.number, c.held.items, bytes_of c.unsent)) q)) none o.0
 
 pub same_line : (at : ℕ) (past : List Step) (h : List WireEvent) (x y : Link) → line_of y ≡ line_of x → LineAgrees at past h x → LineAgrees at past h y
 same_line at past h x y same a = from_line at past h y (subst (OfLine at past h) (sym same) (to_line at past h x a))
@@ -256,8 +256,8 @@ line_reads_to {After} {at = at} {h = h} {h' = h'} x y c d was is number unsent r
   where
     agrees : (past : List Step) → LineAgrees at past h x → After at past h' y
     agrees past a =
-        let now = talk_reads h h' at (opening_of x) (talk_in past at) c.number c.held.items d.held.items (bytes_of c.unsent) (said_asks x.calls.sent.items) x.awaits_dialect x.dialect r (a.conn c was) in
-        let conn = talk_as (ap opening_of is) refl number refl unsent (ap (λ (z : Link). said_asks z.calls.sent.items) is) (ap (λ (z : Link). z.awaits_dialect) is) (ap (λ (z : Link). z.dialect) is) (ap (λ (z : Link). said_late z.late.items) is) now in
+        let now = talk_reads h h' at (address_and_opened x) (talk_in past at) c.number c.held.items d.held.items (bytes_of c.unsent) (said_asks x.calls.sent.items) x.awaits_dialect x.dialect r (a.conn c was) in
+        let conn = talk_as (ap address_and_opened is) refl number refl unsent (ap (λ (z : Link). said_asks z.calls.sent.items) is) (ap (λ (z : Link). z.awaits_dialect) is) (ap (λ (z : Link). z.dialect) is) (ap (λ (z : Link). said_late z.late.items) is) now in
         let waits = sym (ap (λ (z : Link). z.waiting.items) is) in
         after past a conn (subst (λ w. MayAllGo past at w) waits a.waiting) (subst (λ w. AreDue past at (said_asks w)) waits a.due) (subst (λ l. AreCalled past at l) (sym (ap (λ (z : Link). said_asks z.calls.sent.items) is)) a.called)
 
@@ -302,8 +302,8 @@ line_sends_to {After} {at = at} {h = h} {h' = h'} x y c d was is number held s a
   where
     agrees : (past : List Step) → LineAgrees at past h x → After at past h' y
     agrees past a =
-        let now = talk_sends h h' at (opening_of x) (talk_in past at) c.number c.held.items (bytes_of c.unsent) (bytes_of d.unsent) (said_asks x.calls.sent.items) x.awaits_dialect x.dialect s (a.conn c was) in
-        let conn = talk_as (ap opening_of is) refl number held refl (ap (λ (z : Link). said_asks z.calls.sent.items) is) (ap (λ (z : Link). z.awaits_dialect) is) (ap (λ (z : Link). z.dialect) is) (ap (λ (z : Link). said_late z.late.items) is) now in
+        let now = talk_sends h h' at (address_and_opened x) (talk_in past at) c.number c.held.items (bytes_of c.unsent) (bytes_of d.unsent) (said_asks x.calls.sent.items) x.awaits_dialect x.dialect s (a.conn c was) in
+        let conn = talk_as (ap address_and_opened is) refl number held refl (ap (λ (z : Link). said_asks z.calls.sent.items) is) (ap (λ (z : Link). z.awaits_dialect) is) (ap (λ (z : Link). z.dialect) is) (ap (λ (z : Link). said_late z.late.items) is) now in
         let waits = sym (ap (λ (z : Link). z.waiting.items) is) in
         after past a conn (subst (λ w. MayAllGo past at w) waits a.waiting) (subst (λ w. AreDue past at (said_asks w)) waits a.due) (subst (λ l. AreCalled past at l) (sym (ap (λ (z : Link). said_asks z.calls.sent.items) is)) a.called)
 
@@ -364,7 +364,7 @@ begins at core h h' x y dialect number new noted has = record {
     only : TouchesOnly number h h'
     only = subst (TouchesOnly number h) (sym noted) (only_connects number at x.text.items h)
 
-    begun : opening_of y ≡ (x.text.items, time h)
+    begun : address_and_opened y ≡ (x.text.items, time h)
     begun = ap (λ (t : List ℕ). let o : List ℕ × ℕ = (t, y.opened) in o) (ap (λ t. t.items) has.text) ∙ ap (λ (t : ℕ). let o : List ℕ × ℕ = (x.text.items, t) in o) has.opened
 
     has_number : (o : Option Conn) → IsNewEnd number dialect o → option_map (λ (z : Conn). z.number) o ≡ Some number
@@ -444,9 +444,9 @@ line_learns {at} {core} {h} x y can l = by l.told
         agreed past a =
             let talk = ap (λ b. if b then greeted y.dialect takes.0 (talk_in past at) else talk_in past at) (equal at) in
             let before = talk_as refl refl refl (sym takes.1) refl refl refl refl refl (a.conn c was) in
-            let now = talk_greets h at (opening_of x) (talk_in past at) c.number takes.0 d.held.items (bytes_of c.unsent) (said_asks x.calls.sent.items) x.awaits_dialect x.dialect y.dialect before in
+            let now = talk_greets h at (address_and_opened x) (talk_in past at) c.number takes.0 d.held.items (bytes_of c.unsent) (said_asks x.calls.sent.items) x.awaits_dialect x.dialect y.dialect before in
             has_conn at (step ∷ past) h y d is
-            (talk_as (ap opening_of learnt.rest) talk (ap (λ (z : Conn). z.number) takes.3) refl (ap (λ (z : Conn). bytes_of z.unsent) takes.3) (ap (λ (z : Link). said_asks z.calls.sent.items) learnt.rest) learnt.told refl (ap (λ (z : Link). said_late z.late.items) learnt.rest) now)
+            (talk_as (ap address_and_opened learnt.rest) talk (ap (λ (z : Conn). z.number) takes.3) refl (ap (λ (z : Conn). bytes_of z.unsent) takes.3) (ap (λ (z : Link). said_asks z.calls.sent.items) learnt.rest) learnt.told refl (ap (λ (z : Link). said_late z.late.items) learnt.rest) now)
             (ap (λ (z : Conn). is_over z.number h) takes.3 ∙ a.goes_on c was)
             (calls_later (step ∷ []) past at y.waiting.items (subst (λ w. MayAllGo past at w) (sym (ap (λ (z : Link). z.waiting.items) learnt.rest)) a.waiting))
             (due_stays past (step ∷ past) at (said_asks y.waiting.items) (λ n ask is. (refl, refl, refl)) (subst (λ w. AreDue past at (said_asks w)) (sym (ap (λ (z : Link). z.waiting.items) learnt.rest)) a.due))
@@ -506,9 +506,9 @@ line_asks {at} {core} {h} x y c d call was is same alone ready more unsent = rec
     agreed : (past : List Step) → LineAgrees at past h x → AskedOne at past (step ∷ past) x.calls.sent.items call x.waiting.items → LineAgrees at (step ∷ past) h y
     agreed past a one =
         let talk = ap (λ b. if b then with_ask call.ticket.number call.dialect call.ticket.ask call.since (talk_in past at) else talk_in past at) (equal at) in
-        let now = talk_asks h at (opening_of x) (talk_in past at) c.number c.held.items (bytes_of c.unsent) (said_asks x.calls.sent.items) x.awaits_dialect x.dialect call.ticket.number call.dialect call.ticket.ask call.since (a.conn c was) in
+        let now = talk_asks h at (address_and_opened x) (talk_in past at) c.number c.held.items (bytes_of c.unsent) (said_asks x.calls.sent.items) x.awaits_dialect x.dialect call.ticket.number call.dialect call.ticket.ask call.since (a.conn c was) in
         has_conn at (step ∷ past) h y d (ap (λ (z : Link). z.conn) is)
-        (talk_as (ap opening_of is) talk (ap (λ (z : Conn). z.number) same) (ap (λ (z : Conn). z.held.items) same) unsent (ap said_asks more ∙ one_said x.calls.sent.items call) (ap (λ (z : Link). z.awaits_dialect) is) (ap (λ (z : Link). z.dialect) is) (ap (λ (z : Link). said_late z.late.items) is) now)
+        (talk_as (ap address_and_opened is) talk (ap (λ (z : Conn). z.number) same) (ap (λ (z : Conn). z.held.items) same) unsent (ap said_asks more ∙ one_said x.calls.sent.items call) (ap (λ (z : Link). z.awaits_dialect) is) (ap (λ (z : Link). z.dialect) is) (ap (λ (z : Link). said_late z.late.items) is) now)
         (ap (λ (z : Conn). is_over z.number h) same ∙ a.goes_on c was)
         (calls_later (step ∷ []) past at y.waiting.items (subst (λ w. MayAllGo past at w) (sym (ap (λ (z : Link). z.waiting.items) is)) a.waiting))
         (subst (λ w. AreDue (step ∷ past) at (said_asks w)) (sym (ap (λ (z : Link). z.waiting.items) is)) one.due)
@@ -518,7 +518,7 @@ line_asks {at} {core} {h} x y c d call was is same alone ready more unsent = rec
 waits_with : (at : ℕ) (past : List Step) (h : List WireEvent) (x y : Link) → y ≡ record x { waiting = y.waiting } → LineAgrees at past h x → MayAllGo past at y.waiting.items → AreDue past at (said_asks y.waiting.items) → LineAgrees at past h y
 waits_with at past h x y is a waiting due = record {
   conn = λ conn there.
-      talk_as (ap opening_of is) refl refl refl refl (ap (λ (z : Link). said_asks z.calls.sent.items) is) (ap (λ (z : Link). z.awaits_dialect) is) (ap (λ (z : Link). z.dialect) is) (ap (λ (z : Link). said_late z.late.items) is)
+      talk_as (ap address_and_opened is) refl refl refl refl (ap (λ (z : Link). said_asks z.calls.sent.items) is) (ap (λ (z : Link). z.awaits_dialect) is) (ap (λ (z : Link). z.dialect) is) (ap (λ (z : Link). said_late z.late.items) is)
       (a.conn conn (sym (ap (λ (z : Link). z.conn) is) ∙ there));
   goes_on = λ conn there. a.goes_on conn (sym (ap (λ (z : Link). z.conn) is) ∙ there);
   waiting = waiting;
@@ -579,7 +579,7 @@ talk_answers h at begun t c spelled held unsent out out' awaits dialect was = re
 -- the answers in front of what is held settle calls, and this is left of it
 settles_to :
     {After : ℕ → List Step → List WireEvent → Link → Type 0} {at : ℕ} {core core' : ServedCore} {h : List WireEvent} (x y : Link) (c d : Conn) (rest : List ℕ) → x.conn ≡ Some c → y.conn ≡ Some d → x.awaits_dialect ≡ None → x.late.items ≡ []
-    → place_of y ≡ place_of x → y.waiting.items ≡ x.waiting.items → y.awaits_dialect ≡ x.awaits_dialect → y.dialect ≡ x.dialect → y.late.items ≡ x.late.items → d.number ≡ c.number → bytes_of d.unsent ≡ bytes_of c.unsent
+    → server_and_opened y ≡ server_and_opened x → y.waiting.items ≡ x.waiting.items → y.awaits_dialect ≡ x.awaits_dialect → y.dialect ≡ x.dialect → y.late.items ≡ x.late.items → d.number ≡ c.number → bytes_of d.unsent ≡ bytes_of c.unsent
     → ((past : List Step) → ConnAgrees at past h y d rest → is_over d.number h ≡ false → MayAllGo past at y.waiting.items → AreDue past at (said_asks y.waiting.items) → AreCalled past at (said_asks y.calls.sent.items) → After at past h y)
     → SettlesSome x.calls.sent.items c.held.items core y.calls.sent.items rest core' → LineGoesFrom LineAgrees After IsOfTurn at core h x core' h y
 settles_to {After} {at} {core} {core'} {h} x y c d rest was is off alone place waiting awaits speaks late number unsent after s = record {
@@ -602,13 +602,13 @@ settles_to {After} {at} {core} {core'} {h} x y c d rest was is off alone place w
     agreed : (past : List Step) → LineAgrees at past h x → talk_in (g.steps ++ past) at ≡ record (talk_in past at) { told = (talk_in past at).told ++ g.spelled; out = said_asks y.calls.sent.items } → After at (g.steps ++ past) h y
     agreed past a talk =
         let before = talk_as refl refl refl (sym g.whole) refl refl refl refl refl (a.conn c was) in
-        let now = talk_answers h at (opening_of x) (talk_in past at) c.number g.spelled rest (bytes_of c.unsent) (said_asks x.calls.sent.items) (said_asks y.calls.sent.items) x.awaits_dialect x.dialect before in
+        let now = talk_answers h at (address_and_opened x) (talk_in past at) c.number g.spelled rest (bytes_of c.unsent) (said_asks x.calls.sent.items) (said_asks y.calls.sent.items) x.awaits_dialect x.dialect before in
         after (g.steps ++ past) (talk_as (same_opening x y place) talk number refl unsent refl awaits speaks (ap said_late late) now) (ap (λ n. is_over n h) number ∙ a.goes_on c was) (calls_later g.steps past at y.waiting.items (subst (λ w. MayAllGo past at w) (sym waiting) a.waiting))
         (subst (λ w. AreDue (g.steps ++ past) at (said_asks w)) (sym waiting) (left past a).due) (left past a).called
 
 -- what is left of it is held
 pub line_settles :
-    {at : ℕ} {core core' : ServedCore} {h : List WireEvent} (x y : Link) (c d : Conn) → x.conn ≡ Some c → y.conn ≡ Some d → x.awaits_dialect ≡ None → x.late.items ≡ [] → place_of y ≡ place_of x → y.waiting.items ≡ x.waiting.items
+    {at : ℕ} {core core' : ServedCore} {h : List WireEvent} (x y : Link) (c d : Conn) → x.conn ≡ Some c → y.conn ≡ Some d → x.awaits_dialect ≡ None → x.late.items ≡ [] → server_and_opened y ≡ server_and_opened x → y.waiting.items ≡ x.waiting.items
     → y.awaits_dialect ≡ x.awaits_dialect → y.dialect ≡ x.dialect → y.late.items ≡ x.late.items → d.number ≡ c.number → bytes_of d.unsent ≡ bytes_of c.unsent → SettlesSome x.calls.sent.items c.held.items core y.calls.sent.items d.held.items core'
     → LineGoes IsOfTurn at core h x core' h y
 line_settles {at} {core} {core'} {h} x y c d was is off alone place waiting awaits speaks late number unsent s =
@@ -616,7 +616,7 @@ line_settles {at} {core} {core'} {h} x y c d was is off alone place waiting awai
 
 -- or it is lost
 pub line_loses :
-    {at : ℕ} {core core' : ServedCore} {h : List WireEvent} (x y : Link) (c d : Conn) (rest : List ℕ) → x.conn ≡ Some c → y.conn ≡ Some d → x.awaits_dialect ≡ None → x.late.items ≡ [] → place_of y ≡ place_of x
+    {at : ℕ} {core core' : ServedCore} {h : List WireEvent} (x y : Link) (c d : Conn) (rest : List ℕ) → x.conn ≡ Some c → y.conn ≡ Some d → x.awaits_dialect ≡ None → x.late.items ≡ [] → server_and_opened y ≡ server_and_opened x
     → y.waiting.items ≡ x.waiting.items → y.awaits_dialect ≡ x.awaits_dialect → y.dialect ≡ x.dialect → y.late.items ≡ x.late.items → d.number ≡ c.number → bytes_of d.unsent ≡ bytes_of c.unsent → SettlesSome x.calls.sent.items c.held.items core y.calls.sent.items rest core'
     → LineGoesFrom LineAgrees LineLost IsOfTurn at core h x core' h y
 line_loses {at} {core} {core'} {h} x y c d rest was is off alone place waiting awaits speaks late number unsent s =
@@ -671,7 +671,7 @@ gives_up {at} {core} {h} {h'} why x y c e only same_role closed server waiting s
       conn = c.number;
       before = h;
       since = only_after c.number h h' only;
-      begun = opening_of x;
+      begun = address_and_opened x;
       held = (a.lost.conn c e).0;
       unsent = bytes_of c.unsent;
       agrees = record { is_to = t.is_to; begun_is = t.begun_is; sent_is = t.sent_is; told_is = t.told_is; out_is = refl; awaits_is = refl; dialect_is = refl; late_is = refl };
@@ -717,7 +717,7 @@ line_drains {at} {core} {h} {h'} why ending x y same closed conns draining serve
         awaited past a =
             let t = (a.lost.conn c e).1 in
             let talk : talk_in (Lost at why x.limits.connect_ms ∷ past) at ≡ given_up why (talk_in past at) = ap (λ b. if b then given_up why (talk_in past at) else talk_in past at) (equal at) in
-            let now : TalkAgrees h at (opening_of x) (given_up why (talk_in past at)) c.number (a.lost.conn c e).0 (bytes_of c.unsent) [] None (talk_in past at).dialect [] =
+            let now : TalkAgrees h at (address_and_opened x) (given_up why (talk_in past at)) c.number (a.lost.conn c e).0 (bytes_of c.unsent) [] None (talk_in past at).dialect [] =
             record { is_to = t.is_to; begun_is = t.begun_is; sent_is = t.sent_is; told_is = t.told_is; out_is = refl; awaits_is = refl; dialect_is = refl; late_is = refl } in
             subst (λ k. Unused k at y.text.items (talk_in (Lost at why x.limits.connect_ms ∷ past) at) (Some c.number)) (sym same)
             (subst (λ w. Unused h at w (talk_in (Lost at why x.limits.connect_ms ∷ past) at) (Some c.number)) (sym (same_text x y server))

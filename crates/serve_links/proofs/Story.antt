@@ -20,7 +20,7 @@ use Rattle.serve_links.specs.declared.settings.Greeting.{Greeting}
 use Rattle.serve_links.specs.declared.link.Link.{Link}
 use Rattle.serve_links.specs.CoreSteps.{Step, Closed, Opened, Polled, StepsAreOf, IsSending}
 use Rattle.serve_links.specs.Talks.{SaidAsk, Talk, Apart, talk_in, AreDue, AreCalled}
-use Rattle.serve_links.specs.Story.{opening_of, fed_in, gave_in, is_open_in, is_broken_in, ClientAgreesWith, ClientIsTold, ClientsAreTold, TellsNone, TookAll, ClientEndsBy, IsGone, HasOrHad, TalkAgrees, Unused, said_asks, StayOut, LineAgrees, LinesAgree, servers_of, OneGoes, LineGoesFrom, LineGoes, AnEnd, Agrees, AgreesBut, AgreesCalled, AllGoFrom, AllGo, StoriesGoOn}
+use Rattle.serve_links.specs.Story.{address_and_opened, fed_in, gave_in, is_open_in, is_broken_in, ClientAgreesWith, ClientIsTold, ClientsAreTold, TellsNone, TookAll, ClientEndsBy, IsGone, HasOrHad, TalkAgrees, Unused, said_asks, StayOut, LineAgrees, LinesAgree, servers_of, OneGoes, LineGoesFrom, LineGoes, AnEnd, Agrees, AgreesBut, AgreesCalled, AllGoFrom, AllGo, StoriesGoOn}
 use Rattle.serve_links.specs.Called.{TellsCallsOut, GiveOnce}
 use Rattle.serve_links.proofs.Called.{walks_tell_calls}
 use Rattle.serve_links.proofs.Talking.{calls_later, IsPlain, clients_plain, plain_talk, clients_orderly, clients_clock, server_tells_none, server_clock, sending_clock, sending_given, talk_elsewhere}
@@ -106,7 +106,7 @@ pub line_stays_by :
     → AreCalled (steps ++ past) at (said_asks link.calls.sent.items) → LineAgrees at past h link → LineAgrees at (steps ++ past) h' link
 line_stays_by h h' at steps past link same told due called was = record {
   conn = λ conn is.
-      talk_stays h h' at (opening_of link) (talk_in past at) (talk_in (steps ++ past) at) conn.number conn.held.items (bytes_of conn.unsent) (said_asks link.calls.sent.items) link.awaits_dialect link.dialect (same conn.number (was.conn conn is).is_to) told (was.conn conn is);
+      talk_stays h h' at (address_and_opened link) (talk_in past at) (talk_in (steps ++ past) at) conn.number conn.held.items (bytes_of conn.unsent) (said_asks link.calls.sent.items) link.awaits_dialect link.dialect (same conn.number (was.conn conn is).is_to) told (was.conn conn is);
   goes_on = λ conn is. (same conn.number (was.conn conn is).is_to).same_over ∙ was.goes_on conn is;
   waiting = calls_later steps past at link.waiting.items was.waiting;
   due = due;

@@ -70,7 +70,7 @@ due_after (CameLate at number ask answer bytes) n call = call
 due_after (Spelled at number ask answer bytes) n call = call
 due_after (Lost at why limit) n call = call
 
--- the same of a call that wasn't asked either since it was given out
+-- the call of this number that the core gave out in these steps, the latest first, and that was neither asked nor settled since: its server, and its ask
 abbrev pub due_in : List Step → ℕ → Option (ℕ × Ask)
 due_in [] n = None
 due_in (step ∷ steps) n = due_after step n (due_in steps n)
@@ -156,7 +156,7 @@ IsGivenOnce polls.Queued past = Unit {0}
 IsGivenOnce polls.Busy past = Unit {0}
 IsGivenOnce (polls.Did note) past = Unit {0}
 
--- the same of a step
+-- none of its number is out where a step gives out a call
 abbrev pub GivesOnce : Step → List Step → Type 0
 GivesOnce (Polled client poll) past = IsGivenOnce poll past
 GivesOnce (Opened client) past = Unit {0}
@@ -178,7 +178,7 @@ GivesOnce (CameLate at number ask answer bytes) past = Unit {0}
 GivesOnce (Spelled at number ask answer bytes) past = Unit {0}
 GivesOnce (Lost at why limit) past = Unit {0}
 
--- and of each of these steps, after those before it
+-- where one of these steps gives out a call, none of its number is out after those before it
 abbrev pub GiveOnce : List Step → List Step → Type 0
 GiveOnce [] past = Unit {0}
 GiveOnce (step ∷ steps) past = GivesOnce step (steps ++ past) × GiveOnce steps past

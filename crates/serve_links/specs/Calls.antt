@@ -28,7 +28,7 @@ IsReadFor dialect ask bytes (reads.Answer answer used) = SpellsIn dialect ask by
 IsReadFor dialect ask bytes reads.More = IsCutIn dialect ask bytes
 IsReadFor dialect ask bytes reads.Foreign = IsForeignIn dialect ask bytes
 
--- the same of what the core's call of this number asks
+-- what was read is the answer to what the core's call of this number asks, as it was asked in this dialect, and fits the call; or the bytes are cut before its end, or no answer begins so
 abbrev pub IsReadNext : Dialect → Core → ℕ → List ℕ → AnswerRead → Type 0
 IsReadNext dialect core number bytes (reads.Answer answer used) = (ask : Ask) × (asked core number ≡ Some ask) × SpellsIn dialect ask bytes answer used × FitsCall core number (Answered answer)
 IsReadNext dialect core number bytes reads.More = (ask : Ask) × (asked core number ≡ Some ask) × IsCutIn dialect ask bytes
@@ -88,7 +88,7 @@ SettlesNext sent bytes core nexts.More sent' core' = AwaitsFirst sent bytes core
 SettlesNext sent bytes core nexts.Foreign sent' core' = IsForeignToFirst sent bytes core.core × (sent' ≡ sent) × (core' ≡ core)
 SettlesNext sent bytes core nexts.NoMemory sent' core' = (sent' ≡ sent) × (core' ≡ core)
 
--- the same call as one that is late
+-- the call as one that is late
 abbrev pub as_late : SentCall → LateCall
 as_late call = record { number = call.ticket.number; dialect = call.dialect; since = call.since; ask = call.ticket.ask; formed = call.ticket.formed }
 

@@ -1,5 +1,6 @@
 -- What is counted of calls that were settled. Source: mcgate's own.
-use Rattle.std.specs.Prelude.{ℕ, ◌+◌, ◌-◌, ◌^◌, List, [], ◌∷◌, if◌then◌else◌, nat_lt, min, slice_index, slice_set}
+use Rattle.std.specs.Prelude.{ℕ, Bool, true, false, ◌+◌, ◌-◌, ◌^◌, List, [], ◌∷◌, if◌then◌else◌, nat_lt, min, slice_index, slice_set}
+use Rattle.mc_types.specs.Fits.{is_error}
 use Rattle.mc_types.specs.declared.call.Outcome.{Outcome}
 use Rattle.mc_types.specs.declared.call.Outcome.TheVariants.{Answered, Failed}
 use Rattle.core_accepted.specs.Tallies.{one_more}
@@ -44,6 +45,21 @@ with_call_outcome Failed times = with_failure times.tally
 abbrev pub with_first : List SentCall → Outcome → CallTimes → CallTally
 with_first [] outcome times = times.tally
 with_first (call ∷ sent) outcome times = with_call_outcome outcome times
+
+-- one more answer was an error, or wasn't
+abbrev pub with_error : Bool → ℕ → ℕ
+with_error true errors = one_more errors
+with_error false errors = errors
+
+-- a call had this outcome: one more answer was an error, or none was
+abbrev pub with_outcome_error : Outcome → ℕ → ℕ
+with_outcome_error (Answered answer) errors = with_error (is_error answer) errors
+with_outcome_error Failed errors = errors
+
+-- the first of these calls, if there is one, had this outcome: one more answer was an error, or none was
+abbrev pub with_first_error : List SentCall → Outcome → ℕ → ℕ
+with_first_error [] outcome errors = errors
+with_first_error (call ∷ sent) outcome errors = with_outcome_error outcome errors
 
 -- it was answered, if that was done
 abbrev pub with_next : Next → CallTimes → CallTally

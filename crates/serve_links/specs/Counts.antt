@@ -39,6 +39,11 @@ abbrev pub refuses_one : Step → Bool
 refuses_one (NotOpened fault) = true
 refuses_one step = false
 
+-- whether a message was refused by this step
+abbrev pub refuses_message : Step → Bool
+refuses_message (Polled client polls.Refused) = true
+refuses_message step = false
+
 -- whether a command has ended by this step
 abbrev pub ends_one : Step → Bool
 ends_one (Polled client (polls.Did note)) = true
@@ -59,7 +64,7 @@ abbrev pub answers_one : Step → Bool
 answers_one (Settled number (Answered answer)) = true
 answers_one step = false
 
--- or as failed
+-- whether a call was settled by it, as failed
 abbrev pub fails_one : Step → Bool
 fails_one (Settled number Failed) = true
 fails_one step = false
@@ -71,10 +76,11 @@ count_of ShowsItem tally = tally.items
 count_of Acknowledges tally = tally.acknowledged
 count_of TellsOther tally = tally.others
 
--- by how many of these steps a client was opened is counted, or turned away, or a command has ended, and of each operation by how many with a reply of each kind; and by how many a call was given out
+-- by how many of these steps a client was opened is counted, or turned away, or a message refused, or a command has ended, and of each operation by how many with a reply of each kind; and by how many a call was given out
 pub record AreCounted (steps : List Step) (tally : CoreTally) : Type 0 where
   pub opened : tally.opened ≡ counted (number_of opens_one steps)
   pub refused : tally.refused ≡ counted (number_of refuses_one steps)
+  pub bad_messages : tally.bad_messages ≡ counted (number_of refuses_message steps)
   pub ended : tally.ended ≡ counted (number_of ends_one steps)
   pub calls : tally.calls ≡ counted (number_of calls_one steps)
   pub replies : (op : Op) (kind : ReplyKind) → count_of kind (of_op tally op) ≡ counted (number_of (ends_so op kind) steps)

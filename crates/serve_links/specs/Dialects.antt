@@ -58,7 +58,7 @@ TellsNone asked bytes = (more : List ℕ) (dialect : Dialect) (told rest : List 
 abbrev pub GreetsNone : Greeting → List ℕ → Type 0
 GreetsNone greeting bytes = (more : List ℕ) (dialect : Dialect) (said rest : List ℕ) → bytes ++ more ≡ said ++ rest → ¬ Greets greeting dialect said
 
--- the same where that is still to come
+-- the bytes are all that it says to what it was asked first, which is still to come
 abbrev pub AnswersFirst : Option Greeting → Dialect → List ℕ → Type 0
 AnswersFirst None dialect bytes = ⊥
 AnswersFirst (Some greeting) dialect bytes = Greets greeting dialect bytes
@@ -85,7 +85,7 @@ IsUsedBelow most (reads.Told dialect used) = used < most
 IsUsedBelow most reads.More = Unit {0}
 IsUsedBelow most reads.Foreign = Unit {0}
 
--- in four more
+-- a dialect was told in four bytes more
 abbrev pub four_more : DialectRead → DialectRead
 four_more (reads.Told dialect used) = reads.Told dialect (used + 4)
 four_more reads.More = reads.More

@@ -6,7 +6,7 @@ use Rattle.serve_links.specs.declared.link.Link.{Link}
 abbrev pub is_retired : Link → Bool
 is_retired link = link.is_retired
 
--- the same link, of which that is said
+-- the link, retired or not
 abbrev pub with_retired : Bool → Link → Link
 with_retired is_retired link = record link { is_retired = is_retired }
 

@@ -135,7 +135,7 @@ MayApply past place (at_servers.Does (Begins number ask)) = ⊥
 MayApply past place (at_servers.Does (Replies number key reply from)) = ⊥
 MayApply past place (at_servers.Does (Breaks number)) = ⊥
 
--- so it is with each of them
+-- each moment at a server may be applied over its connection, after those before it
 abbrev pub AreApplied : List Move → Type 0
 AreApplied [] = Unit {0}
 AreApplied (OfProxy step entries ∷ past) = AreApplied past
@@ -158,12 +158,12 @@ TellAlike past =
     (n : ℕ) → (calls_so_far (seen (moments_in past)) n ≡ calls_so_far (run_of (log_of past)) n)
     ⊎ ((call : Call) × (calls_so_far (seen (moments_in past)) n ≡ calls_so_far (run_of (log_of past)) n ++ call ∷ []) × CallIsAwaited (log_of past) n call)
 
--- so it is at each time
+-- at each time what happened and the log tell alike
 abbrev pub TellAlways : List Move → Type 0
 TellAlways [] = Unit {0}
 TellAlways (move ∷ past) = TellAlike (move ∷ past) × TellAlways past
 
--- the same events as steps of one connection to each server
+-- steps of one connection to each server, and then what of these events is the proxy's alone
 abbrev pub with_moves : List Event → List pipes.PipeStep → List pipes.PipeStep
 with_moves [] steps = steps
 with_moves (Begins number ask ∷ events) steps = Moves (at_servers.Does (Begins number ask)) ∷ with_moves events steps
@@ -178,7 +178,7 @@ closed_if Apart at steps = Closes 0 at ∷ steps
 closed_if InUse at steps = steps
 closed_if Ending at steps = steps
 
--- and a step of the proxy as one of these: what it asks is sent, and what stands in a connection is gone once that is closed, or another takes its place
+-- steps of one connection to each server, and then a step of the proxy as one of these: what it asks is sent, and what stands in a connection is gone once that is closed, or another takes its place
 abbrev pub with_step : Step → List (Entry dialect) → List pipes.PipeStep → List pipes.PipeStep
 with_step (Linked at greeting) log steps = Closes 0 at ∷ steps
 with_step (Asked at number spoken ask since) log steps = Sends number at ask (out_origin log at number) ∷ steps

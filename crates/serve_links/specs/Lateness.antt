@@ -57,7 +57,7 @@ may_give (Some conn) = conn.readable
 abbrev pub IsReadBy : (now : ℕ) → Link → Type 0
 IsReadBy now link = (now ≤ link.asked_at) × (may_give link.conn ≡ false)
 
--- so it is with the link of this number
+-- of the link of this number, once a clock showed this, the system was asked for what has come over its connection, and all of it was read
 abbrev pub LinkIsRead : (at now : ℕ) → List Link → Type 0
 LinkIsRead at now links = (link : Link) × (slice_get links at ≡ Some link) × IsReadBy now link
 
@@ -67,6 +67,6 @@ HasLateAt at now links = (link : Link) × (slice_get links at ≡ Some link) × 
 abbrev pub IsConnectLateAt : (at now : ℕ) → List Link → Type 0
 IsConnectLateAt at now links = (link : Link) × (slice_get links at ≡ Some link) × IsConnectLate now link
 
--- so it is with each of these links
+-- of each of these links the limits stay, and where stores are awaited however long they take none that was out is out no more
 abbrev pub AllLetStoresWait : List Link → List Link → Type 0
 AllLetStoresWait old new = (at : ℕ) (x y : Link) → slice_get old at ≡ Some x → slice_get new at ≡ Some y → LetsStoresWait x y

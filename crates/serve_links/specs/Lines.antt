@@ -26,7 +26,7 @@ dialect_asked asks.Auto = codes "mn\r\n"
 dialect_asked asks.Classic = []
 dialect_asked asks.Meta = []
 
--- and before that, so that it empties itself
+-- what a server is asked before that, so that it empties itself
 abbrev pub flush_asked : Bool → List ℕ
 flush_asked true = codes "flush_all\r\n"
 flush_asked false = []
@@ -57,7 +57,7 @@ pub record SameEnd (x y : Conn) : Type 0 where
   pub held : y.held.items ≡ x.held.items
   pub unsent : y.unsent ≡ x.unsent
 
--- and so has an end that may not be there
+-- an end that may not be there has the number, the held bytes and the unsent ones that it had
 abbrev pub SameLine : Option Conn → Option Conn → Type 0
 SameLine None y = y ≡ None
 SameLine (Some x) None = ⊥
@@ -145,11 +145,11 @@ ReadsAway (Some causes.Foreign) c h h' = ⊥
 ReadsAway (Some causes.NoRoom) c h h' = ⊥
 ReadsAway (Some causes.VainReads) c h h' = ⊥
 
--- the same of its end
+-- one read of a connection whose end is awaited, by its end, which keeps its number
 abbrev pub DrainsOne : Option Cause → Conn → Conn → List WireEvent → List WireEvent → Type 0
 DrainsOne why x y h h' = (y.number ≡ x.number) × ReadsAway why x.number h h'
 
--- or it wasn't read, as there is none, or as another is in use
+-- a connection whose end is awaited was read once; or it wasn't, as there is none, or as another is in use
 abbrev pub DrainsAt : Option Cause → Option Conn → Option Conn → Option Conn → List WireEvent → List WireEvent → Type 0
 DrainsAt why used None y h h' = (why ≡ None) × (y ≡ None) × (h' ≡ h)
 DrainsAt why used (Some x) None h h' = ⊥

@@ -32,7 +32,7 @@ pub record IsDown (link : Link) : Type 0 where
   pub sent : link.calls.sent.items ≡ []
   pub waiting : link.waiting.items ≡ []
 
--- so it is with the link of this number, if there is one
+-- the link of this number, if there is one, has no connection, and none of its calls is out
 abbrev pub IsDownAt : ℕ → List Link → Type 0
 IsDownAt at links = IfSome (slice_get links at) IsDown
 

@@ -28,20 +28,20 @@ pub record SettlesOne (sent : List SentCall) (bytes : List ℕ) (core : ServedCo
   pub client : ℕ
   pub settles : SettlesFirst sent core (Answered answer) (Some client) sent' core'
 
--- so it is with each of these answers, one after another, and nothing else is done
+-- the bytes begin with these answers, each to the first call that is out then: the calls are settled by them, one after another, what the answers take goes, and nothing else is done
 abbrev pub SettlesEach : List Answer → List SentCall → List ℕ → ServedCore → List SentCall → List ℕ → ServedCore → Type 0
 SettlesEach [] sent bytes core sent' bytes' core' = (sent' ≡ sent) × (bytes' ≡ bytes) × (core' ≡ core)
 SettlesEach (answer ∷ answers) sent bytes core sent' bytes' core' =
     (s : List SentCall) × (b : List ℕ) × (c : ServedCore) × SettlesOne sent bytes core answer s b c × SettlesEach answers s b c sent' bytes' core'
 
--- so it is with some answers, or none: the bytes begin with what spells them, and the others are left
+-- calls are settled by some answers, or none, one after another: the bytes begin with what spells them, and the others are left
 pub record SettlesSome (sent : List SentCall) (bytes : List ℕ) (core : ServedCore) (sent' : List SentCall) (bytes' : List ℕ) (core' : ServedCore) : Type 0 where
   pub answers : List Answer
   pub each : SettlesEach answers sent bytes core sent' bytes' core'
   pub spelled : List ℕ
   pub bytes_are : bytes ≡ spelled ++ bytes'
 
--- so it is with some answers, or none, and whatever is left of the bytes
+-- calls are settled by some answers with which the bytes begin, or none, one after another, whatever is left of the bytes
 abbrev pub SettlesFront : List SentCall → List ℕ → ServedCore → List SentCall → ServedCore → Type 0
 SettlesFront sent bytes core sent' core' = (rest : List ℕ) × SettlesSome sent bytes core sent' rest core'
 

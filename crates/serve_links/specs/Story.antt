@@ -180,7 +180,7 @@ said_late calls = each (λ call. (call.number, call.dialect, call.ask, call.sinc
 abbrev pub MayGo : List Step → ℕ → SentCall → Type 0
 MayGo past at call = MayBeAsked past call.ticket.number at call.dialect call.ticket.ask
 
--- so it is with each of these calls
+-- the core gave out each of these calls for this server, and it may be asked in its dialect
 abbrev pub MayAllGo : List Step → ℕ → List SentCall → Type 0
 MayAllGo past at [] = Unit {0}
 MayAllGo past at (call ∷ calls) = MayGo past at call × MayAllGo past at calls
@@ -198,12 +198,12 @@ pub record TalkAgrees (h : List WireEvent) (at : ℕ) (begun : List ℕ × ℕ) 
   pub late_is : talk.late ≡ late
 
 -- what names the address of a link's server, and what the clock showed when the connection was begun that it has, if it has one
-abbrev pub opening_of : Link → List ℕ × ℕ
-opening_of link = (link.text.items, link.opened)
+abbrev pub address_and_opened : Link → List ℕ × ℕ
+address_and_opened link = (link.text.items, link.opened)
 
--- so does that of a link, if it has one, where so much of it is held
+-- a link's connection agrees with what was said over it, where these bytes of it are held
 abbrev pub ConnAgrees : ℕ → List Step → List WireEvent → Link → Conn → List ℕ → Type 0
-ConnAgrees at past h link conn held = TalkAgrees h at (opening_of link) (talk_in past at) conn.number held (bytes_of conn.unsent) (said_asks link.calls.sent.items) link.awaits_dialect link.dialect (said_late link.late.items)
+ConnAgrees at past h link conn held = TalkAgrees h at (address_and_opened link) (talk_in past at) conn.number held (bytes_of conn.unsent) (said_asks link.calls.sent.items) link.awaits_dialect link.dialect (said_late link.late.items)
 
 -- where no connection is in use: none is there; or the end of this one is awaited, and it agrees with what was said over it, but for what it delivered that told nothing, and what it didn't take
 abbrev pub Unused : List WireEvent → ℕ → List ℕ → Talk → Option ℕ → Type 0
@@ -220,7 +220,7 @@ pub record LineAgrees (at : ℕ) (past : List Step) (h : List WireEvent) (link :
   pub unused : link.conn ≡ None → Unused h at link.text.items (talk_in past at) (drain_of link)
   pub called : AreCalled past at (said_asks link.calls.sent.items)
 
--- the same of a link whose bytes were lost, or whose connection is over: it agrees but for what it holds
+-- a link whose bytes were lost, or whose connection is over, agrees with these calls but for what it holds
 pub record LineLost (at : ℕ) (past : List Step) (h : List WireEvent) (link : Link) : Type 0 where
   pub conn : (conn : Conn) → link.conn ≡ Some conn → (held : List ℕ) × ConnAgrees at past h link conn held
   pub waiting : MayAllGo past at link.waiting.items
@@ -254,7 +254,7 @@ Shows causes.Foreign limit talk c h = (held : List ℕ) × (delivered c h ≡ ta
 Shows causes.NoRoom limit talk c h = Unit {0}
 Shows causes.VainReads limit talk c h = talk.out ≢ []
 
--- the same where it is given up for a cause, if it is
+-- what the wire shows, or what was said, of a connection that is given up for a cause, if it is for one
 abbrev pub ShowsWhy : Option Cause → (limit : ℕ) → Talk → ℕ → List WireEvent → Type 0
 ShowsWhy None limit talk c h = Unit {0}
 ShowsWhy (Some cause) limit talk c h = Shows cause limit talk c h
@@ -274,7 +274,7 @@ pub record WasShown (why : Option Cause) (limit at : ℕ) (past : List Step) (h 
 abbrev pub HasShown : ℕ → List WireEvent → Type 0
 HasShown now h = (before : List WireEvent) × Extends before h × (time before ≡ now)
 
--- so it is with a step by which one is given up; and where a call is late, the clock showed by then what it is late by
+-- where a connection is given up by this step, it showed why at some time; and where a call is late, the clock showed by then what it is late by
 abbrev pub StepIsShown : Step → List Step → List WireEvent → Type 0
 StepIsShown (Lost at why limit) past h = WasShown why limit at past h
 StepIsShown (Opened client) past h = Unit {0}
@@ -296,7 +296,7 @@ StepIsShown (Late at number limit now) past h = HasShown now h
 StepIsShown (CameLate at number ask answer bytes) past h = Unit {0}
 StepIsShown (Spelled at number ask answer bytes) past h = Unit {0}
 
--- and with each of these
+-- where a connection is given up by one of these steps, it showed why at some time; and where a call is late, the clock showed by then what it is late by
 abbrev pub StepsAreShown : List Step → List WireEvent → Type 0
 StepsAreShown [] h = Unit {0}
 StepsAreShown (step ∷ steps) h = StepIsShown step steps h × StepsAreShown steps h
@@ -322,9 +322,9 @@ LinesAgree past h links = (at : ℕ) (link : Link) → slice_get links at ≡ So
 abbrev pub address_and_limits : Link → List ℕ × LinkLimits
 address_and_limits link = (link.text.items, link.limits)
 
--- and when the connection was begun that it has
-abbrev pub place_of : Link → (List ℕ × LinkLimits) × ℕ
-place_of link = (address_and_limits link, link.opened)
+-- what names the address of a link's server, the limits that it has, and what the clock showed when the connection was begun that it has
+abbrev pub server_and_opened : Link → (List ℕ × LinkLimits) × ℕ
+server_and_opened link = (address_and_limits link, link.opened)
 
 -- all that a link has to do with its connections and its calls: its server's address and limits, and when the connection was begun, the connection's number, what is held of it and what is to be sent, the calls that are out, those that wait,
 -- what its server was asked first and is still to answer, in which dialect calls are asked, those that were late, and the number of the connection whose end is awaited
@@ -332,7 +332,7 @@ abbrev pub LineState : Type 0
 LineState = ((List ℕ × LinkLimits) × ℕ) × Option (ℕ × List ℕ × List ℕ) × List SaidAsk × List SentCall × Option Greeting × Dialect × List SaidAsk × Option ℕ
 
 abbrev pub line_of : Link → LineState
-line_of link = (place_of link, option_map (λ (x : Conn). (x.number, x.held.items, bytes_of x.unsent)) link.conn, said_asks link.calls.sent.items, link.waiting.items, link.awaits_dialect, link.dialect, said_late link.late.items, drain_of link)
+line_of link = (server_and_opened link, option_map (λ (x : Conn). (x.number, x.held.items, bytes_of x.unsent)) link.conn, said_asks link.calls.sent.items, link.waiting.items, link.awaits_dialect, link.dialect, said_late link.late.items, drain_of link)
 
 -- a step by which a call is late tells for how long those of its server may take, and one by which a connection is given up for how long it may take until it takes calls, where this says the limits of each server
 abbrev pub IsByLimit : (ℕ → Option LinkLimits) → Step → Type 0
@@ -383,7 +383,7 @@ pub record OneGoes (Is : Step → Type 0) (id : ℕ) (core : ServedCore) (h : Li
 abbrev pub StayOut : ℕ → List Step → List Step → Type 0
 StayOut at past past' = (n : ℕ) (ask : Ask) → call_in past n ≡ Some (at, ask) → (call_in past' n ≡ call_in past n) × (due_in past' n ≡ due_in past n) × (given_in past' n ≡ given_in past n)
 
--- so are those of all others
+-- each call of another server that was out is out, given out when it was, and still to be asked if it was
 abbrev pub LeavesCalls : ℕ → List Step → List Step → Type 0
 LeavesCalls at past past' = (j : ℕ) → nat_eq at j ≡ false → StayOut j past past'
 
@@ -439,7 +439,7 @@ pub record Agrees (past : List Step) (x : AnEnd) : Type 0 where
   pub shut : AreShut x.history x.clients x.links
   pub clock : clock_in past ≡ time x.history
 
--- the same, but that this holds of the link at one place
+-- all agrees but the link at one place, of which this holds
 pub record AgreesBut (This : ℕ → List Step → List WireEvent → Link → Type 0) (at : ℕ) (past : List Step) (x : AnEnd) : Type 0 where
   pub orderly : IsOrderly past
   pub calls : TellsCallsOut past x.core

@@ -236,7 +236,7 @@ MayComeNext (Ticked now) past = Unit {0}
 MayComeNext (Broke client) past = Unit {0}
 MayComeNext (Loaded configuration generation) past = Unit {0}
 
--- so it is with each of them, after those before it
+-- each of these steps may come next after those before it
 abbrev pub IsOrderly : List Step → Type 0
 IsOrderly [] = Unit {0}
 IsOrderly (step ∷ steps) = MayComeNext step steps × IsOrderly steps

@@ -15,7 +15,8 @@ use serve_clients::{Client, Departure};
 use serve_wire::Wire;
 use serve_wire::conn::{Got, send};
 
-/// One read of the client. One for whose bytes there is no memory is closed, and no other one.
+/// One read of the client's connection, and of no other: its end goes on to agree with what came over that. Where the read fails, or there is no
+/// memory for what came, the client is broken off.
 ///
 /// Source: mcgate's own.
 #[tactic(auto, using(crate::proofs::Reading::came, crate::proofs::Reading::reads_now, crate::proofs::Reading::lost_now))]
@@ -56,8 +57,9 @@ fn send_unsent<W: Wire>(client: &mut Client, wire: &mut W)
     client.break_off(Departure::Broken);
 }
 
-/// What is to be sent to the client goes out, as far as it is taken. Whether the client is to be served for that: it takes what is
-/// shown to it again, or it has ended, and all is sent. To one that is broken off nothing goes.
+/// What is to be sent to the client goes out over its connection, and nothing over another, as far as it is taken: its end goes on to agree with what
+/// was taken. Whether the client is to be served for that: it takes what is shown to it again, or it has ended, and all is sent. One that is broken
+/// off stays so.
 ///
 /// Source: mcgate's own.
 pub fn send_once<W: Wire>(core: &ServedCore, id: usize, client: &mut Client, wire: &mut W) -> bool
@@ -73,7 +75,8 @@ pub fn send_once<W: Wire>(core: &ServedCore, id: usize, client: &mut Client, wir
     is_over || (was_full && client.has_room())
 }
 
-/// What the client's end holds is given to the core.
+/// What the client's end holds is given to the core: all of it, as one piece, and it is held no more; or none of it. Then the core is as it was, and the
+/// end holds it still, or is broken off.
 pub fn feed_held(core: &mut ServedCore, id: usize, client: &mut Client)
     ensures core { GoesOn core.old core.new }
     ensures piece { FeedsPiece id client.old.conn.held.items core.old core.new }
@@ -90,7 +93,8 @@ pub fn feed_held(core: &mut ServedCore, id: usize, client: &mut Client)
     }
 }
 
-/// What the core has for the client goes after what is to be sent. How many bytes that is.
+/// What the core has for the client goes after what is to be sent, and the core has it no more: how many bytes that is. Nothing else of the client's end
+/// changes. After an error what is to be sent is the same, and the core is as it was.
 pub fn show(core: &mut ServedCore, id: usize, client: &mut Client) -> Result<usize, CoreFault>
     ensures core { GoesOn core.old core.new }
     ensures bytes { OnOk result (bytes_of client.new.conn.unsent ≡ bytes_of client.old.conn.unsent ++ output_by (client_at core.old.core id)) }

@@ -21,7 +21,7 @@ fn read_told(dialect: ServerDialect, bytes: &[u8]) -> DialectRead
     }
 }
 
-// The same behind four bytes.
+// What was read where it stands behind four more bytes: a dialect was told in four bytes more.
 fn four_more(read: DialectRead) -> DialectRead
     requires { IsUsedBelow (2 ^ 63) read }
     ensures { result ≡ four_more read }
@@ -47,7 +47,8 @@ fn is_flushed(front: &[u8]) -> bool
     front == b"OK\r\n".as_slice()
 }
 
-/// What it said: nothing is told before all of it has come.
+/// What the bytes say of a server that was asked this first: all that it says stands at their front and tells this dialect, or more has to come, or
+/// no such answer begins so.
 #[tactic(auto, using(crate::proofs::Ends::reads_alone))]
 pub fn read_greeting(greeting: Greeting, bytes: &[u8]) -> DialectRead
     ensures { ReadsGreeting greeting bytes.now result }

@@ -52,8 +52,8 @@ fn pass_over(late: &mut VecDeque<LateCall>, calls: &mut LinkCalls, conn: &mut Co
 }
 
 impl Link {
-    /// The first of the calls that are out is late, as one of them is, or one that was late before: it has failed, and keeps its place. Whose it was. Without a connection none is, nor is a store
-    /// where stores are awaited however long they take.
+    /// The first of the calls that are out has failed and keeps its place, as one of them is late, or one that was late before: whose it was.
+    /// Without a connection nothing is done, nor where it is a store and stores are awaited however long they take.
     pub(crate) fn fail_late(&mut self, core: &mut ServedCore) -> Result<Option<usize>, AllocError>
         ensures goes { (at : ℕ) (h : List WireEvent) → HasOneLate (time h) self.old → LineGoes IsSending at core.old h self.old core.new h self.new }
         ensures late { (now : ℕ) → HasOneLate now self.old → HasOneLate now self.new }
@@ -85,7 +85,9 @@ impl Link {
         pass_over(&mut self.late, &mut self.calls, conn)
     }
 
-    /// Late answers that are held whole are thrown away, one after another.
+    /// Late answers that are held whole are thrown away, one after another, where the server has answered what it was asked first. They settle nothing:
+    /// the core stays as it is. After `Over` no call is late any more. After `Foreign` what is held begins no answer to the first call whose answer is to
+    /// come.
     pub fn throw_late(&mut self) -> LateEnd
         requires { self.old.awaits_dialect ≡ None }
         ensures goes { (at : ℕ) (core : ServedCore) (h : List WireEvent) → LineGoes IsOfTurn at core h self.old core h self.new }

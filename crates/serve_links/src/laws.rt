@@ -22,8 +22,8 @@ pub fn walks_tell_calls()
 {}
 
 /// Whatever calls of a core are made, what it counts is what they were, as far as a count goes: how many clients were opened and turned away, how many
-/// commands its polls told to have ended, and of each operation how many with a reply of each kind, and how many calls its polls gave
-/// out. Where each call that was settled was out, as in an orderly walk, so is how many were answered and how many have failed.
+/// messages its polls told to have been refused, how many commands to have ended, and of each operation how many with a reply of each kind, and how many
+/// calls they gave out. Where each call that was settled was out, as in an orderly walk, so is how many were answered and how many have failed.
 pub fn steps_are_counted()
     ensures { StepsAreCounted }
 {}

@@ -36,10 +36,10 @@ const LIMITS: Limits = Limits {
 // those to one client mostly come whole.
 const LINK_READ: usize = 73_728;
 
-// And for so many where the read before filled its room: the answers to two such clients.
+// One read has room for so many bytes where the read before filled its room: for the answers to two such clients.
 const LONG_READ: usize = 147_456;
 
-// And for so many where what comes is thrown away.
+// One read has room for so many bytes where what comes is thrown away.
 const DRAIN_READ: usize = 16_384;
 
 // Of each link news are told once in so many milliseconds at most.
@@ -244,7 +244,7 @@ pub struct Link {
     news: Option<LinkNews>,
     /// From when on it may be told.
     news_from: u64,
-    /// Whether a connection failed since one last stood.
+    /// Whether a connection failed, or a call was late, since its server last answered.
     was_down: bool,
 }
 
@@ -351,6 +351,11 @@ impl Link {
             return true;
         }
         self.is_stalled()
+    }
+
+    /// Whether the next answer may be news: its server is late, or was, or a connection failed, and it hasn't answered since.
+    pub fn may_come_back(&self) -> bool {
+        self.was_down || self.is_late()
     }
 
     /// Whether its server is still to answer what it was asked first.
@@ -655,8 +660,8 @@ impl Link {
         }
     }
 
-    /// The wire is asked by now whether its connection stands, though it told of nothing: whether that is news. Where it stood before, a read may
-    /// give something.
+    /// The wire is asked by now whether its connection stands, though it told of nothing: whether it does, and didn't before. Where it stood
+    /// before, a read may give something.
     pub fn look_again<W: Wire>(&mut self, wire: &W, now: u64) -> bool
         ensures lines { KeepsLines self.old self.new }
         ensures asked { self.old.is_connected ≡ true → IfSome self.new.conn (λ conn. conn.readable ≡ true) }
@@ -688,7 +693,8 @@ impl Link {
         self.limits.fail_limit <= self.failures && (now < self.held_until || !self.calls.is_empty())
     }
 
-    /// A read brought whole answers, or none. Whether it has failed by that: where calls are out, and so many reads in a row brought none.
+    /// A read brought whole answers, or none. Whether it has failed by that: where calls are out, and so many reads in a row brought none. That its
+    /// server has answered is news where it was down.
     pub fn has_read(&mut self, has_settled: bool, polls: Option<u32>) -> bool
         ensures failed { result ≡ true → self.new.calls.sent.items ≢ [] }
         ensures rest { self.new ≡ record self.old { failures = self.new.failures; vain_reads = self.new.vain_reads; news = self.new.news; was_down = self.new.was_down } }
@@ -835,7 +841,7 @@ impl Link {
         }
     }
 
-    /// Its connection stands. Whether that is news.
+    /// Its connection stands. Whether it didn't before, which is news but where its server was down: that it is back is news once it has answered.
     pub fn stand(&mut self) -> bool
         ensures { KeepsLines self.old self.new }
     {
@@ -844,12 +850,10 @@ impl Link {
         }
         self.is_connected = true;
         self.tally.note_stood();
-        self.news = if self.was_down {
-            Some(LinkNews::Back)
-        } else {
-            Some(LinkNews::Opened)
-        };
-        self.was_down = false;
+        if self.was_down {
+            return true;
+        }
+        self.news = Some(LinkNews::Opened);
         true
     }
 
@@ -873,7 +877,7 @@ impl Link {
         self.tell_back();
     }
 
-    // That its server has answered is news where it was late, and is so no longer.
+    // That its server has answered is news where it was down, and isn't late any more.
     fn tell_back(&mut self)
         ensures { self.new ≡ record self.old { news = self.new.news; was_down = self.new.was_down } }
     {

@@ -73,13 +73,13 @@ impl Cause {
 /// What happened to a server's link.
 #[derive(Clone, Copy, PartialEq, Eq)]
 pub enum LinkNews {
-    /// A connection stands, the first one.
+    /// A connection stands, and its server wasn't down.
     Opened,
     /// It failed, so many times in a row since the server last answered.
     Failed(Cause, u32),
     /// A call took too long: its calls fail until the server has answered those that were out.
     Late,
-    /// A connection stands again, or the server has answered all calls that were late.
+    /// The server has answered again since a connection failed, or all calls that were late.
     Back,
 }
 

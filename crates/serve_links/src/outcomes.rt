@@ -276,7 +276,7 @@ fn settle_in(
     (used, HeldStop::More)
 }
 
-// The same in bytes that aren't shared.
+// Whole answers in these bytes, which aren't shared, are settled, up to one to stop at: how many bytes they are, and what follows.
 fn settle_here(
     calls: &mut LinkCalls,
     core: &mut ServedCore,
@@ -302,7 +302,7 @@ fn settle_here(
     )
 }
 
-// All whole answers in bytes that are shared are settled.
+// All whole answers in these bytes, which are shared, are settled: how many bytes they are, and what follows.
 fn settle_cut(
     calls: &mut LinkCalls,
     core: &mut ServedCore,

@@ -21,7 +21,7 @@ pub enum ServerDialect {
 pub struct Greeting {
     /// Whether it is to empty itself, by `flush_all`: no call is asked before its `OK`.
     pub flushes: bool,
-    /// And then for its dialects, in this way.
+    /// How it is asked for its dialects, after that.
     pub dialect: ServerDialect,
 }
 
@@ -110,8 +110,8 @@ impl Settings {
         }
     }
 
-    /// The same where so many descriptors may be open, of which so many are for servers and so many for the rest: no more clients than
-    /// these leave, and one at least.
+    /// These settings where so many descriptors may be open, of which so many are for servers and so many for the rest: no more clients than
+    /// these leave and than were wanted, or one where that is less. All else stays.
     pub fn within_descriptors(self, most: usize, servers: usize, rest: usize) -> Settings
         ensures within { (result.clients + (servers + rest) ≤ most) ⊎ (result.clients ≡ 1) }
         ensures wanted { (result.clients ≤ self.clients) ⊎ (result.clients ≡ 1) }

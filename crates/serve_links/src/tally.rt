@@ -15,6 +15,8 @@ pub struct Tally {
     pub shown: u64,
     /// How many of its clients have gone, and for what.
     pub gone: Departures,
+    /// How often the system refused to accept a connection.
+    pub unaccepted: u64,
 }
 
 /// What has become of the calls of a server that went out.
@@ -92,6 +94,7 @@ impl Tally {
             read: 0,
             shown: 0,
             gone: Departures::new(),
+            unaccepted: 0,
         }
     }
 
@@ -103,6 +106,11 @@ impl Tally {
     /// There are so many bytes to send.
     pub fn note_shown(&mut self, count: usize) {
         self.shown = self.shown.saturating_add(count as u64);
+    }
+
+    /// The system refused to accept a connection.
+    pub fn note_unaccepted(&mut self) {
+        self.unaccepted = self.unaccepted.saturating_add(1);
     }
 }
 

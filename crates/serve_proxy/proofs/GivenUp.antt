@@ -21,7 +21,7 @@ use Rattle.serve_links.specs.Lateness.{AwaitsLate, IsConnectLate, IsConnectLateA
 use Rattle.serve_links.specs.Links.{vain_cause}
 use Rattle.serve_links.specs.CoreSteps.{Step, Opened, NotOpened, Fed, Polled, Stopped, Settled, Gave, Closed, LeftLine, Broke, Ticked, Loaded, Linked, Asked, Greeted, Spelled, Late, CameLate, Lost, Walks, StepsAreOf, IsOfTurn, IsGivingUp, IsSending, OnlyFails, GoesBy}
 use Rattle.serve_links.specs.Talks.{SaidAsk, IsStoreFirst, talk_in}
-use Rattle.serve_links.specs.Story.{opening_of, said_asks, said_late, line_of, IsForeign, LineIsForeign, LineAgrees, LineLost, LineFails, LineGoesFrom, AnEnd, Agrees, AgreesBut, AllGoFrom, ShowsWhy}
+use Rattle.serve_links.specs.Story.{address_and_opened, said_asks, said_late, line_of, IsForeign, LineIsForeign, LineAgrees, LineLost, LineFails, LineGoesFrom, AnEnd, Agrees, AgreesBut, AllGoFrom, ShowsWhy}
 use Rattle.serve_links.proofs.LinkGoes.{as_failing, line_between, line_keeps}
 use Rattle.serve_links.proofs.ByLimits.{servers_same}
 use Rattle.serve_links.proofs.Foreign.{fails_foreign, none_awaited}
@@ -151,7 +151,7 @@ unconnected {a = a} at late g = go_between (λ past was. failing_at (Some causes
 
     this : (past : List Step) → Agrees past a → (link : Link) → slice_get a.links at ≡ Some link → LineFails (Some causes.ConnectLate) at past a.history link
     this past was link there =
-        let agrees = was.links at link there in as_failing (Some causes.ConnectLate) at past a.history link (λ conn is. (opening_of link, (agrees.conn conn is).begun_is, (passed link there).1)) agrees
+        let agrees = was.links at link there in as_failing (Some causes.ConnectLate) at past a.history link (λ conn is. (address_and_opened link, (agrees.conn conn is).begun_is, (passed link there).1)) agrees
 
 -- so may one whose late answers didn't come
 pub late_some : (at : ℕ) (past : List Step) (h : List WireEvent) (y : Link) (conn : Conn) → LineAgrees at past h y → y.conn ≡ Some conn → y.late.items ≢ [] → (talk_in past at).late ≢ []

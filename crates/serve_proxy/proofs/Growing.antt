@@ -1,5 +1,5 @@
 -- Links that come behind those that are there, and ends that begin.
-use Rattle.std.proofs.Common.{◌≡◌, ◌⊎◌, inl, inr, ℕ, zero, suc, Bool, false, List, [], ◌∷◌, ◌++◌, Option, Some, None, refl, sym, ap, ◌∙◌, subst, append_assoc, append-nil}
+use Rattle.std.proofs.Common.{◌≡◌, ◌⊎◌, inl, inr, ℕ, zero, suc, Bool, false, List, [], ◌∷◌, ◌++◌, take, length, Option, Some, None, refl, sym, ap, ◌∙◌, subst, append_assoc, append-nil}
 use Rattle.std.specs.Prelude.{slice_get, IfSome, map as each}
 use Rattle.std.specs.Option.{option_map, option_flatten}
 use Rattle.mc_types.specs.declared.ask.Dialect.{Dialect}
@@ -23,19 +23,23 @@ use Rattle.serve_links.specs.declared.calls.late_call.LateCall.{LateCall}
 use Rattle.serve_links.specs.declared.settings.LinkLimits.{LinkLimits}
 use Rattle.serve_links.specs.declared.link.Link.{Link}
 use Rattle.serve_links.specs.Links.{IsDown}
-use Rattle.serve_links.specs.CoreSteps.{Step, Loaded}
+use Rattle.serve_links.specs.CoreSteps.{Step, Loaded, Walks, StepsAreOf}
 use Rattle.serve_links.specs.declared.settings.Greeting.{Greeting}
-use Rattle.serve_links.specs.Story.{fed_in, gave_in, ClientIsTold, said_asks, said_late, address_and_limits, place_of, LineState, line_of, Unused, LineAgrees, LinesAgree, AnEnd, Agrees, AllGoFrom, AllGo, texts_of, servers_of, MayAllGo}
+use Rattle.serve_links.specs.Story.{fed_in, gave_in, ClientIsTold, said_asks, said_late, address_and_limits, server_and_opened, LineState, line_of, Unused, LineAgrees, LinesAgree, AnEnd, Agrees, AllGoFrom, AllGo, texts_of, servers_of, MayAllGo}
 use Rattle.serve_links.specs.Shut.{drain_of, link_conn, IsShutBut}
 use Rattle.serve_links.specs.Talks.{Apart, talk_in, AreDue, AreCalled, IsOrderly}
 use Rattle.serve_links.specs.Called.{TellsCallsOut}
 use Rattle.serve_links.proofs.Called.{walks_tell_calls}
 use Rattle.serve_links.proofs.Shutting.{shut_quiet}
 use Rattle.serve_links.proofs.Walked.{walked, of_both}
-use Rattle.serve_proxy.specs.Ends.{link_lines, down_line, AddsLines, EndsStay, with_limits, AllGrowFrom, AllGrow, IsLoadOf, HasNoConns}
+use Rattle.serve_proxy.specs.Ends.{link_lines, down_line, AddsLines, EndsStay, with_limits, AllGrowFrom, AllGrow, IsLoadOf, AllLoad, HasNoConns}
+use Rattle.serve_proxy.specs.Limiting.{limited_by, AreLimited}
+use Rattle.serve_proxy.specs.declared.sockets.Sockets.{Sockets}
+use Rattle.serve_proxy.specs.declared.links.Links.{Links}
 use Rattle.serve_proxy.specs.Beginning.{limits_by, BeginsFresh, BeginsUnchecked}
 use Rattle.serve_proxy.proofs.Conns.{conns_grow}
 use Rattle.serve_proxy.proofs.Going.{stays, agree_told, had_quiet, lines_told, get_line, texts_by_lines}
+use Rattle.serve_proxy.proofs.Staying.{stay_links, stay_limits}
 use Rattle.serve_links.proofs.LinkGoes.{same_line, has_none}
 
 -- ---- lines that are added
@@ -46,12 +50,12 @@ adds_none old new same = ([], ap link_lines same ∙ sym (append-nil (link_lines
 -- the line of a link that is down
 down_of : (link : Link) → IsDown link → link.draining ≡ None → link.late.items ≡ [] → link.awaits_dialect ≡ None → link.dialect ≡ Classic → link.opened ≡ 0 → line_of link ≡ down_line (address_and_limits link)
 down_of link down undrained alone off classic unopened =
-    ap (λ (o : Option Conn). let s : LineState = (place_of link, option_map (λ (x : Conn). (x.number, x.held.items, bytes_of x.unsent)) o, said_asks link.calls.sent.items, link.waiting.items, link.awaits_dialect, link.dialect, said_late link.late.items, drain_of link) in s) down.closed
-    ∙ ap (λ (l : List SentCall). let s : LineState = (place_of link, None, said_asks l, link.waiting.items, link.awaits_dialect, link.dialect, said_late link.late.items, drain_of link) in s) down.sent
-    ∙ ap (λ (l : List SentCall). let s : LineState = (place_of link, None, [], l, link.awaits_dialect, link.dialect, said_late link.late.items, drain_of link) in s) down.waiting
-    ∙ ap (λ (b : Option Greeting). let s : LineState = (place_of link, None, [], [], b, link.dialect, said_late link.late.items, drain_of link) in s) off
-    ∙ ap (λ (d : Dialect). let s : LineState = (place_of link, None, [], [], None, d, said_late link.late.items, drain_of link) in s) classic ∙ ap (λ (l : List LateCall). let s : LineState = (place_of link, None, [], [], None, Classic, said_late l, drain_of link) in s) alone
-    ∙ ap (λ (o : Option Conn). let s : LineState = (place_of link, None, [], [], None, Classic, [], option_map (λ (x : Conn). x.number) o) in s) undrained
+    ap (λ (o : Option Conn). let s : LineState = (server_and_opened link, option_map (λ (x : Conn). (x.number, x.held.items, bytes_of x.unsent)) o, said_asks link.calls.sent.items, link.waiting.items, link.awaits_dialect, link.dialect, said_late link.late.items, drain_of link) in s) down.closed
+    ∙ ap (λ (l : List SentCall). let s : LineState = (server_and_opened link, None, said_asks l, link.waiting.items, link.awaits_dialect, link.dialect, said_late link.late.items, drain_of link) in s) down.sent
+    ∙ ap (λ (l : List SentCall). let s : LineState = (server_and_opened link, None, [], l, link.awaits_dialect, link.dialect, said_late link.late.items, drain_of link) in s) down.waiting
+    ∙ ap (λ (b : Option Greeting). let s : LineState = (server_and_opened link, None, [], [], b, link.dialect, said_late link.late.items, drain_of link) in s) off
+    ∙ ap (λ (d : Dialect). let s : LineState = (server_and_opened link, None, [], [], None, d, said_late link.late.items, drain_of link) in s) classic ∙ ap (λ (l : List LateCall). let s : LineState = (server_and_opened link, None, [], [], None, Classic, said_late l, drain_of link) in s) alone
+    ∙ ap (λ (o : Option Conn). let s : LineState = (server_and_opened link, None, [], [], None, Classic, [], option_map (λ (x : Conn). x.number) o) in s) undrained
     ∙ ap (λ (t : ℕ). let s : LineState = ((address_and_limits link, t), None, [], [], None, Classic, [], None) in s) unopened
 
 lines_more : (links : List Link) (link : Link) → link_lines (links ++ link ∷ []) ≡ link_lines links ++ line_of link ∷ []
@@ -70,6 +74,20 @@ down_both (x ∷ xs) ys = ap (λ l. down_line x ∷ l) (down_both xs ys)
 pub adds_twice : (a b c : List Link) → AddsLines a b → AddsLines b c → AddsLines a c
 adds_twice a b c x y =
     (x.0 ++ y.0, y.1 ∙ ap (λ l. l ++ each down_line y.0) x.1 ∙ append_assoc (link_lines a) (each down_line x.0) (each down_line y.0) ∙ ap (λ l. link_lines a ++ l) (sym (down_both x.0 y.0)))
+
+lines_taken : (n : ℕ) (links : List Link) → link_lines (take n links) ≡ take n (link_lines links)
+lines_taken zero links = refl
+lines_taken (suc n) [] = refl
+lines_taken (suc n) (link ∷ links) = ap (λ l. line_of link ∷ l) (lines_taken n links)
+
+taken_front : (links : List Link) (more : List LineState) → take (length links) (link_lines links ++ more) ≡ link_lines links
+taken_front [] more = refl
+taken_front (link ∷ links) more = ap (λ l. line_of link ∷ l) (taken_front links more)
+
+-- only those that were there before are left
+pub gone_back : (old mid new : List Link) (before : ℕ) → AddsLines old mid → before ≡ length old → new ≡ take before mid → link_lines new ≡ link_lines old
+gone_back old mid new before adds is left =
+    ap link_lines left ∙ lines_taken before mid ∙ ap (λ n. take n (link_lines mid)) is ∙ ap (take (length old)) adds.1 ∙ taken_front old (each down_line adds.0)
 
 -- ---- ends of links that were added
 
@@ -147,7 +165,7 @@ pub grows : {P Q : List Step → AnEnd → Type 0} {Is : Step → Type 0} {a b :
 grows {a = a} {b = b} g = record { steps = g.steps; kinds = g.kinds; walks = g.walks; agree = g.agree; texts = ([], texts_kept a.links b.links g.servers.same ∙ sym (append-nil (texts_of a.links))) }
 
 -- one after another
-pub then_grows : {P Q R : List Step → AnEnd → Type 0} {Is : Step → Type 0} {a b c : AnEnd} → AllGrowFrom P Q Is a b → AllGrowFrom Q R Is b c → AllGrowFrom P R Is a c
+unfoldable pub then_grows : {P Q R : List Step → AnEnd → Type 0} {Is : Step → Type 0} {a b c : AnEnd} → AllGrowFrom P Q Is a b → AllGrowFrom Q R Is b c → AllGrowFrom P R Is a c
 then_grows {P} {Q} {R} {Is} {a} {b} {c} g k =
     record {
       steps = k.steps ++ g.steps;
@@ -253,6 +271,8 @@ pub limited_grows :
     {Is : Step → Type 0} {h h' : List WireEvent} {cs cs' : Clients} {ls ls' : List Link} (core : ServedCore) → ((any : LinkLimits) → EndsStay h h' cs cs' (with_limits any ls) (with_limits any ls'))
     → AllGrow Is (record { core = core; history = h; clients = cs; links = ls }) (record { core = core; history = h'; clients = cs'; links = ls' })
 limited_grows {Is} {h} {h'} {cs} {cs'} {ls} {ls'} core stay =
+    let any : LinkLimits = record { call_ms = 0; connect_ms = 0; fail_limit = 0; retry_ms = 0; stores_wait = false } in
+    let g : AllGo Is (record { core = core; history = h; clients = cs; links = with_limits any ls }) (record { core = core; history = h'; clients = cs'; links = with_limits any ls' }) = stays core (stay any) in
     record {
       steps = g.steps;
       kinds = g.kinds;
@@ -260,12 +280,66 @@ limited_grows {Is} {h} {h'} {cs} {cs'} {ls} {ls'} core stay =
       agree = λ past was. agrees_from any (g.steps ++ past) core h' cs' ls' (g.agree past (agrees_to any past core h cs ls was));
       texts = ([], sym (texts_limited any ls') ∙ texts_kept (with_limits any ls) (with_limits any ls') g.servers.same ∙ texts_limited any ls ∙ sym (append-nil (texts_of ls)));
     }
-  where
-    any : LinkLimits
-    any = record { call_ms = 0; connect_ms = 0; fail_limit = 0; retry_ms = 0; stores_wait = false }
 
-    g : AllGo Is (record { core = core; history = h; clients = cs; links = with_limits any ls }) (record { core = core; history = h'; clients = cs'; links = with_limits any ls' })
-    g = stays core (stay any)
+texts_by : (limits : List ℕ → LinkLimits) (links : List Link) → texts_of (limited_by limits links) ≡ texts_of links
+texts_by limits [] = refl
+texts_by limits (link ∷ links) = ap (λ l. link.text.items ∷ l) (texts_by limits links)
+
+pub texts_limited_by : (limits : List ℕ → LinkLimits) (ls ls' : List Link) → ls' ≡ limited_by limits ls → texts_of ls' ≡ texts_of ls
+texts_limited_by limits ls ls' same = ap texts_of same ∙ texts_by limits ls
+
+-- each link has its limits so
+are_limited : (limits : List ℕ → LinkLimits) (links : List Link) → AreLimited limits (servers_of (limited_by limits links))
+are_limited limits [] = tt
+are_limited limits (link ∷ links) = (refl, are_limited limits links)
+
+pub are_limited_by : (limits : List ℕ → LinkLimits) (ls ls' : List Link) → ls' ≡ limited_by limits ls → AreLimited limits (servers_of ls')
+are_limited_by limits ls ls' same = subst (λ l. AreLimited limits (servers_of l)) (sym same) (are_limited limits ls)
+
+-- no step is of no kind
+pub no_steps : (steps : List Step) → StepsAreOf (λ step. ⊥) steps → steps ≡ []
+no_steps [] kinds = refl
+no_steps (step ∷ steps) kinds = absurd kinds.0
+
+-- what is done without any step is done by steps of each kind
+unfoldable pub of_none : {Is : Step → Type 0} {a b : AnEnd} → AllGrow (λ step. ⊥) a b → AllGrow Is a b
+of_none {Is} {a} {b} g = record { steps = []; kinds = tt; walks = subst (λ l. Walks l a.core b.core) (no_steps g.steps g.kinds) g.walks; agree = λ past was. subst (λ l. Agrees (l ++ past) b) (no_steps g.steps g.kinds) (g.agree past was); texts = g.texts }
+
+-- links were added, a configuration was loaded, and each link has its limits so
+load_limits :
+    {h : List WireEvent} {cs : Clients} (limits : List ℕ → LinkLimits) (ls ls' ls'' : List Link) (configuration : Configuration) (generation : ℕ) (a b : ServedCore) → IsLoaded a configuration generation b → AddsLines ls ls' → ls'' ≡ limited_by limits ls'
+    → AllGrow (IsLoadOf configuration) (record { core = a; history = h; clients = cs; links = ls }) (record { core = b; history = h; clients = cs; links = ls'' })
+load_limits {h} {cs} limits ls ls' ls'' configuration generation a b loaded adds same =
+    then_grows (then_grows (links_grow {ls = ls} {ls' = ls'} a adds) (load_grows configuration generation a b loaded)) (of_none (limited_grows b (stay_limits h cs limits ls' ls'' same)))
+
+pub all_load :
+    {W : Type 0} {history : W → List WireEvent} {servers : List (List ℕ)} {limits : List ℕ → LinkLimits} {configuration : Configuration} {a b : ServedCore} (generation : ℕ) (old : Sockets W) (more new : Links) → IsLoaded a configuration generation b
+    → AddsLines old.links.all.items more.all.items → texts_of more.all.items ≡ servers → new.all.items ≡ limited_by limits more.all.items → AllLoad history configuration servers limits a old b (record old { links = new })
+unfolding load_limits then_grows load_grows links_grow of_none
+all_load {limits = limits} {configuration = configuration} {a = a} {b = b} generation old more new loaded adds texts same = record {
+  grows = load_limits limits old.links.all.items more.all.items new.all.items configuration generation a b loaded adds same;
+  links = inr (generation, refl, are_limited_by limits more.all.items new.all.items same, texts_limited_by limits more.all.items new.all.items same ∙ texts);
+}
+
+-- nothing was, and links have the lines that they had
+pub load_kept :
+    {W : Type 0} {history : W → List WireEvent} {servers : List (List ℕ)} {limits : List ℕ → LinkLimits} {configuration : Configuration} {a b : ServedCore} (old : Sockets W) (new : Links) → b ≡ a → link_lines new.all.items ≡ link_lines old.links.all.items
+    → AllLoad history configuration servers limits a old b (record old { links = new })
+unfolding same_grows then_grows of_none
+load_kept {history = history} {configuration = configuration} {a = a} {b = b} old new same lines =
+    let ends : EndsStay (history old.wire) (history old.wire) old.clients old.clients old.links.all.items new.all.items = stay_links (history old.wire) old.clients old.links.all.items new.all.items lines in
+    let g : AllGo (λ step. ⊥) (record { core = a; history = history old.wire; clients = old.clients; links = old.links.all.items }) (record { core = a; history = history old.wire; clients = old.clients; links = new.all.items }) = stays a ends in
+    record { grows = then_grows (of_none (grows g)) (same_grows a b same); links = inl (refl, g.servers.same) }
+
+pub load_none : {W : Type 0} {history : W → List WireEvent} {servers : List (List ℕ)} {limits : List ℕ → LinkLimits} {configuration : Configuration} {a b : ServedCore} (old : Sockets W) → b ≡ a → AllLoad history configuration servers limits a old b old
+unfolding same_grows
+load_none {a = a} {b = b} old same = record { grows = same_grows a b same; links = inl (refl, refl) }
+
+-- from a core that is the same
+pub load_from :
+    {W : Type 0} {history : W → List WireEvent} {servers : List (List ℕ)} {limits : List ℕ → LinkLimits} {configuration : Configuration} {a x b : ServedCore} {old new : Sockets W} → x ≡ a → AllLoad history configuration servers limits x old b new
+    → AllLoad history configuration servers limits a old b new
+load_from {history = history} {servers = servers} {limits = limits} {configuration = configuration} {b = b} {old = old} {new = new} same g = subst (λ y. AllLoad history configuration servers limits y old b new) same g
 
 -- ---- an end that begins
 

@@ -16,5 +16,6 @@ pub mod Sparing
 pub mod Refusing
 pub mod Drained
 pub mod Turns
+mod Limited
 pub mod Emptied
 pub mod Shedding

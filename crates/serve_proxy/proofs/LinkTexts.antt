@@ -1,5 +1,6 @@
--- The texts of links as links are added.
-use Rattle.std.proofs.Common.{◌≡◌, ℕ, zero, suc, ◌+◌, ◌<◌, ◌≤◌, List, [], ◌∷◌, ◌++◌, Some, None, length, drop, refl, sym, ap, ◌∙◌, add-one, append-nil, append_assoc, arith}
+-- The texts of links as links are added, and beside those of servers.
+use Rattle.std.proofs.Common.{◌≡◌, ℕ, zero, suc, ◌+◌, ◌<◌, ◌≤◌, List, [], ◌∷◌, ◌++◌, Some, None, length, drop, refl, sym, ap, ap₂, ◌∙◌, add-one, append-nil, append_assoc, inl, inr, arith}
+use Rattle.std.proofs.lemmas.Bool.{cases_eq}
 use Rattle.std.specs.Prelude.{slice_get}
 use Rattle.serve_links.specs.declared.link.Link.{Link}
 use Rattle.serve_links.specs.Story.{texts_of}
@@ -46,3 +47,45 @@ none_left (x ∷ servers) (suc i) h = none_left servers i (omega arith)
 -- all came
 pub texts_end : (servers texts all : List (List ℕ)) (i : ℕ) → length servers ≤ i → texts ++ drop i servers ≡ all → texts ≡ all
 texts_end servers texts all i h was = sym (append-nil texts) ∙ ap (λ l. texts ++ l) (sym (none_left servers i h)) ∙ was
+
+-- ---- beside the names of servers
+
+same_some : {A : Type 0} {x y : A} → Some x ≡ Some y → x ≡ y
+same_some e = cc
+
+-- a link's text is the text at its place
+text_there_of : (links : List Link) (at : ℕ) (link : Link) → slice_get links at ≡ Some link → slice_get (texts_of links) at ≡ Some link.text.items
+text_there_of [] at link is = absurd (none_some is)
+  where
+    none_some : None ≡ Some link → ⊥
+    none_some e = cc
+text_there_of (x ∷ links) zero link is = ap (λ (l : Link). Some l.text.items) (same_some is)
+text_there_of (x ∷ links) (suc at) link is = text_there_of links at link is
+
+-- it is that of the server of its number
+pub text_of_link : (links : List Link) (servers : List (List ℕ)) (at : ℕ) (link : Link) (text : List ℕ) → slice_get links at ≡ Some link → slice_get servers at ≡ Some text → link.text.items ≡ text → slice_get (texts_of links) at ≡ slice_get servers at
+text_of_link links servers at link text there named same = text_there_of links at link there ∙ ap (λ (t : List ℕ). Some t) same ∙ sym named
+
+texts_as_long : (links : List Link) → length (texts_of links) ≡ length links
+texts_as_long [] = refl
+texts_as_long (x ∷ links) = ap (λ n. suc n) (texts_as_long links)
+
+-- lists that are as long and have the same at each place are one
+same_at_each : (xs ys : List (List ℕ)) → length xs ≡ length ys → ((i : ℕ) → i < length xs → slice_get xs i ≡ slice_get ys i) → xs ≡ ys
+same_at_each [] [] long all = refl
+same_at_each [] (y ∷ ys) long all = absurd (omega (arith, long))
+same_at_each (x ∷ xs) [] long all = absurd (omega (arith, long))
+same_at_each (x ∷ xs) (y ∷ ys) long all =
+    ap₂ (λ (t : List ℕ) (ts : List (List ℕ)). t ∷ ts) (same_some (all 0 (omega arith))) (same_at_each xs ys (omega (arith, long)) (λ i within. all (suc i) (omega (arith, within))))
+
+-- so many links are to the servers of their numbers
+abbrev pub AreOf : ℕ → List Link → List (List ℕ) → Type 0
+AreOf n links servers = (i : ℕ) → i < n → slice_get (texts_of links) i ≡ slice_get servers i
+
+-- one more
+pub one_more_of : (n : ℕ) (links : List Link) (servers : List (List ℕ)) → AreOf n links servers → slice_get (texts_of links) n ≡ slice_get servers n → AreOf (n + 1) links servers
+one_more_of n links servers were is = λ i within. elim (cases_eq i n) [ inl e ↦ ap (slice_get (texts_of links)) e ∙ is ∙ ap (slice_get servers) (sym e) | inr other ↦ were i (omega (arith, within, other)) ]
+
+-- all are, and there are no others
+pub all_of : (n : ℕ) (links : List Link) (servers : List (List ℕ)) → AreOf n links servers → length links ≤ n → length links ≡ length servers → texts_of links ≡ servers
+all_of n links servers are whole long = same_at_each (texts_of links) servers (texts_as_long links ∙ long) (λ i within. are i (let e = texts_as_long links in omega (arith, within, whole, e)))

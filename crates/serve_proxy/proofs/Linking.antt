@@ -39,7 +39,7 @@ use Rattle.serve_links.specs.Links.{CallIsTaken}
 use Rattle.serve_links.specs.Lines.{IsNewEnd, OpensLink, greeting_of}
 use Rattle.serve_links.specs.Shut.{drain_of}
 use Rattle.serve_links.specs.Talks.{SaidAsk, talk_in, IsCalledIn}
-use Rattle.serve_links.specs.Story.{place_of, LineState, line_of, said_asks, said_late, MayGo, LineAgrees, LineLost, LineGoesFrom, LineGoes, AnEnd, Agrees, AgreesBut, AgreesCalled, AgreesSent, AllGoFrom, fed_in, gave_in}
+use Rattle.serve_links.specs.Story.{server_and_opened, LineState, line_of, said_asks, said_late, MayGo, LineAgrees, LineLost, LineGoesFrom, LineGoes, AnEnd, Agrees, AgreesBut, AgreesCalled, AgreesSent, AllGoFrom, fed_in, gave_in}
 use Rattle.serve_links.proofs.LateGoes.{waits_still}
 use Rattle.serve_links.proofs.LinkGoes.{as_lost, line_between, line_settles, line_loses, line_asks, line_waits, line_takes}
 use Rattle.serve_links.proofs.Story.{go_between}
@@ -81,7 +81,7 @@ line_calls x y is sent = ap line_of is ∙ line_parts x.waiting.items x.awaits_d
 -- and one for which as many calls wait
 pub line_waiting : (x y : Link) → y ≡ record x { waiting = y.waiting } → y.waiting.items ≡ x.waiting.items → line_of y ≡ line_of x
 line_waiting x y is waiting =
-    ap line_of is ∙ ap (λ (w : List SentCall). let s : LineState = (place_of x, option_map {U = ℕ × List ℕ × List ℕ} conn_state x.conn, said_asks x.calls.sent.items, w, x.awaits_dialect, x.dialect, said_late x.late.items, drain_of x) in s) waiting
+    ap line_of is ∙ ap (λ (w : List SentCall). let s : LineState = (server_and_opened x, option_map {U = ℕ × List ℕ × List ℕ} conn_state x.conn, said_asks x.calls.sent.items, w, x.awaits_dialect, x.dialect, said_late x.late.items, drain_of x) in s) waiting
 
 -- ---- calls that are handed over
 
@@ -191,7 +191,7 @@ line_may_lose {at = at} {h' = h'} {y = y} g = line_between (λ past was. was) (�
 
 -- answers settled calls, and what is left is held
 pub settled :
-    {at : ℕ} {core core' : ServedCore} {h : List WireEvent} (x y : Link) (c d : Conn) (sent : List SentCall) → x.conn ≡ Some c → x.awaits_dialect ≡ None → x.late.items ≡ [] → y.conn ≡ Some d → place_of y ≡ place_of x → y.waiting.items ≡ x.waiting.items
+    {at : ℕ} {core core' : ServedCore} {h : List WireEvent} (x y : Link) (c d : Conn) (sent : List SentCall) → x.conn ≡ Some c → x.awaits_dialect ≡ None → x.late.items ≡ [] → y.conn ≡ Some d → server_and_opened y ≡ server_and_opened x → y.waiting.items ≡ x.waiting.items
     → y.awaits_dialect ≡ x.awaits_dialect → y.dialect ≡ x.dialect → y.late.items ≡ x.late.items → y.calls.sent.items ≡ sent → HoldsAnew c d → SettlesSome x.calls.sent.items c.held.items core sent d.held.items core' → LineGoes IsOfTurn at core h x core' h y
 settled {core = core} {core' = core'} x y c d sent was off alone is place waiting awaits speaks late same holds s =
     line_settles x y c d was is off alone place waiting awaits speaks late (ap (λ (z : Conn). z.number) holds) (ap (λ (z : Conn). bytes_of z.unsent) holds)
@@ -199,7 +199,7 @@ settled {core = core} {core' = core'} x y c d sent was off alone is place waitin
 
 -- or may be lost
 pub settled_some :
-    {at : ℕ} {core core' : ServedCore} {h : List WireEvent} (x y : Link) (c d : Conn) (sent : List SentCall) → x.conn ≡ Some c → x.awaits_dialect ≡ None → x.late.items ≡ [] → y.conn ≡ Some d → place_of y ≡ place_of x → y.waiting.items ≡ x.waiting.items
+    {at : ℕ} {core core' : ServedCore} {h : List WireEvent} (x y : Link) (c d : Conn) (sent : List SentCall) → x.conn ≡ Some c → x.awaits_dialect ≡ None → x.late.items ≡ [] → y.conn ≡ Some d → server_and_opened y ≡ server_and_opened x → y.waiting.items ≡ x.waiting.items
     → y.awaits_dialect ≡ x.awaits_dialect → y.dialect ≡ x.dialect → y.late.items ≡ x.late.items → y.calls.sent.items ≡ sent → HoldsAnew c d → SettlesFront x.calls.sent.items c.held.items core sent core' → LineGoesFrom LineAgrees LineLost IsOfTurn at core h x core' h y
 settled_some {core = core} {core' = core'} x y c d sent was off alone is place waiting awaits speaks late same holds s =
     line_loses x y c d s.0 was is off alone place waiting awaits speaks late (ap (λ (z : Conn). z.number) holds) (ap (λ (z : Conn). bytes_of z.unsent) holds)

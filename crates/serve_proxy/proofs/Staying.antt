@@ -22,10 +22,10 @@ use Rattle.serve_links.specs.declared.settings.LinkLimits.{LinkLimits}
 use Rattle.serve_links.specs.declared.link.Link.{Link}
 use Rattle.serve_links.specs.declared.link.Opening.{Opening}
 use Rattle.std.specs.Option.{is_some}
-use Rattle.std.specs.Prelude.{map as each}
 use Rattle.serve_links.specs.Lines.{SameLine, KeepsLines, OpensLink}
-use Rattle.serve_links.specs.Story.{address_and_limits, LineState, line_of}
+use Rattle.serve_links.specs.Story.{address_and_limits, line_of}
 use Rattle.serve_links.proofs.LinkGoes.{keeps_line, line_keeps, line_reads, line_reads_over, line_sends, line_sends_over, line_opens as line_begins, line_shuts}
+use Rattle.serve_proxy.specs.Limiting.{limited_by}
 use Rattle.serve_proxy.specs.Ends.{link_lines, with_limits, over_by, broken_unless, WireIsQuiet, EndsStay, LineStands, LineStandsUnless}
 
 -- ---- lines of links
@@ -122,25 +122,10 @@ stay_then {h} {h'} {h''} {cs} {cs'} {cs''} a b = record { quiet = λ d. untouche
 
 -- ---- limits
 
--- one link has others
-pub limits_lent : (any limits : LinkLimits) (links : List Link) (at : ℕ) (x y : Link) → x ≡ get_or links at x → y ≡ record x { limits = limits } → with_limits any (set links at y) ≡ with_limits any links
-limits_lent any limits [] at x y was is = refl
-limits_lent any limits (first ∷ links) zero x y was is =
-    ap (λ (z : Link). record z { limits = any } ∷ with_limits any links) is ∙ ap (λ (z : Link). record z { limits = any } ∷ with_limits any links) was
-limits_lent any limits (first ∷ links) (suc at) x y was is = ap (λ ls. record first { limits = any } ∷ ls) (limits_lent any limits links at x y was is)
+with_twice : (any : LinkLimits) (limits : List ℕ → LinkLimits) (links : List Link) → with_limits any (limited_by limits links) ≡ with_limits any links
+with_twice any limits [] = refl
+with_twice any limits (link ∷ links) = ap (λ ls. record link { limits = any } ∷ ls) (with_twice any limits links)
 
--- and so have all, of which nothing else has changed
-pub stay_limits :
-    (h : List WireEvent) (cs : Clients) (ls ls' : List Link) → ((any : LinkLimits) → with_limits any ls' ≡ with_limits any ls) → (any : LinkLimits) → EndsStay h h cs cs (with_limits any ls) (with_limits any ls')
-stay_limits h cs ls ls' same any = stay_links h cs (with_limits any ls) (with_limits any ls') (ap link_lines (same any))
-
-abbrev limited : LinkLimits → LineState → LineState
-limited any s = (((s.0.0.0, any), s.0.1), s.1, s.2, s.3, s.4, s.5, s.6, s.7)
-
-lines_limited : (any : LinkLimits) (links : List Link) → link_lines (with_limits any links) ≡ each (limited any) (link_lines links)
-lines_limited any [] = refl
-lines_limited any (link ∷ links) = ap (λ l. line_of (record link { limits = any }) ∷ l) (lines_limited any links)
-
--- what stays does so whatever limits links have
-pub stay_but_limits : {h h' : List WireEvent} {cs cs' : Clients} {ls ls' : List Link} → EndsStay h h' cs cs' ls ls' → (any : LinkLimits) → EndsStay h h' cs cs' (with_limits any ls) (with_limits any ls')
-stay_but_limits {ls = ls} {ls' = ls'} s any = record { quiet = s.quiet; clients = s.clients; links = lines_limited any ls' ∙ ap (each (limited any)) s.links ∙ sym (lines_limited any ls) }
+-- all have others, and nothing else of them has changed
+pub stay_limits : (h : List WireEvent) (cs : Clients) (limits : List ℕ → LinkLimits) (ls ls' : List Link) → ls' ≡ limited_by limits ls → (any : LinkLimits) → EndsStay h h cs cs (with_limits any ls) (with_limits any ls')
+stay_limits h cs limits ls ls' same any = stay_links h cs (with_limits any ls) (with_limits any ls') (ap (λ l. link_lines (with_limits any l)) same ∙ ap link_lines (with_twice any limits ls))

@@ -9,7 +9,6 @@ use Rattle.serve_links.specs.Epochs.{is_retired, with_retired, LinkIsQuiet}
 use Rattle.serve_proxy.specs.Epochs.{share_address, HaveEnded, EpochIsInTurn, Retires}
 use Rattle.serve_links.specs.declared.settings.LinkLimits.{LinkLimits}
 use Rattle.serve_proxy.specs.Emptying.{EmptiesAt}
-use Rattle.serve_proxy.specs.Limiting.{LimitsAt}
 
 none_some : {A : Type 0} (x : A) → None ≡ Some x → ⊥
 none_some x e = cc
@@ -66,13 +65,6 @@ pub empties_none : (links : List Link) (at : ℕ) → slice_get links at ≡ Non
 empties_none links at none = record {
   one = λ link is. absurd (none_some link (sym none ∙ is));
   others = λ i link other is. is;
-}
-
--- its server has these limits
-pub limits_set : (links : List Link) (at : ℕ) (y : Link) (limits : LinkLimits) → y.limits ≡ limits → LimitsAt at limits links (set links at y)
-limits_set links at y limits is = record {
-  one = λ link there. ap (λ (l : Link). l.limits) (set_one links at y link there) ∙ is;
-  others = set_others links at y;
 }
 
 -- there is none of this number

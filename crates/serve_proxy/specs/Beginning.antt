@@ -1,15 +1,11 @@
--- How the core of a proxy begins, and what a load makes of it. Source: mcgate's own.
-use Rattle.std.specs.Prelude.{◌≡◌, ℕ, List, ◌⊎◌}
+-- How the core of a proxy begins. Source: mcgate's own.
+use Rattle.std.specs.Prelude.{List}
 use Rattle.route_tree.specs.Route.{Route}
 use Rattle.route_json.specs.Configuration.{Configuration}
-use Rattle.gate_check.specs.declared.reloading.ReloadFault.TheVariants.{NoMemory}
 use Rattle.core_proxy.specs.declared.limits.CoreLimits.{CoreLimits}
 use Rattle.core_accepted.specs.declared.beginnings.Beginnings.{Beginnings}
 use Rattle.core_accepted.specs.Logs.{IsNewFrom, IsUnchecked}
 use Rattle.core_accepted.specs.declared.served.ServedCore.{ServedCore}
-use Rattle.core_accepted.specs.declared.loading.LoadFault.{LoadFault}
-use Rattle.core_accepted.specs.declared.loading.LoadFault.TheVariants.{Refused}
-use Rattle.core_accepted.specs.Loading.{IsLoaded}
 use Rattle.serve_links.specs.declared.settings.Settings.{Settings}
 use Rattle.serve_proxy.specs.declared.beginning.TheConstants.{HELD_LIMIT}
 
@@ -24,7 +20,3 @@ BeginsFresh accepted begun settings core = IsNewFrom accepted begun (limits_by s
 -- it is a new core on this tree, which no gate was asked about
 abbrev pub BeginsUnchecked : Route → Settings → ServedCore → Type 0
 BeginsUnchecked tree settings core = IsUnchecked tree (limits_by settings) core
-
--- after a fault it is as it was; where there was no memory for new links, it may be loaded
-abbrev pub LoadStops : ServedCore → Configuration → LoadFault → ServedCore → Type 0
-LoadStops old configuration fault new = (new ≡ old) ⊎ ((fault ≡ Refused NoMemory) × ((generation : ℕ) × IsLoaded old configuration generation new))

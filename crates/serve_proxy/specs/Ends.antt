@@ -20,10 +20,11 @@ use Rattle.serve_links.specs.declared.news.Cause.{Cause}
 use Rattle.serve_links.specs.declared.news.Cause.TheVariants as causes
 use Rattle.serve_wire.specs.declared.conn.conn.Got.{Got}
 use Rattle.serve_wire.specs.declared.conn.conn.Got.TheVariants as got
+use Rattle.serve_proxy.specs.Limiting.{AreLimited}
 use Rattle.serve_proxy.specs.declared.sockets.Sockets.{Sockets}
 use Rattle.serve_links.specs.Lateness.{AwaitsLate}
 use Rattle.serve_links.specs.Talks.{Standing, standing_after}
-use Rattle.serve_links.specs.Story.{LineState, line_of, LineAgrees, LineFails, LineCalled, LineGoesFrom, LineGoes, OneGoes, AnEnd, Agrees, AgreesGiven, AgreesBut, AgreesCalled, AgreesSent, AllGoFrom, AllGo, texts_of}
+use Rattle.serve_links.specs.Story.{LineState, line_of, LineAgrees, LineFails, LineCalled, LineGoesFrom, LineGoes, OneGoes, AnEnd, Agrees, AgreesGiven, AgreesBut, AgreesCalled, AgreesSent, AllGoFrom, AllGo, texts_of, servers_of}
 
 -- what each link has to do with its connection and its calls
 abbrev pub link_lines : List Link → List LineState
@@ -88,7 +89,7 @@ LinksGive at call ls ls' = (h : List WireEvent) (cs : Clients) → EndsGoFrom Ag
 abbrev pub LineStands : ℕ → List WireEvent → List WireEvent → Link → Link → Type 0
 LineStands at h h' old new = (core : ServedCore) → LineGoes IsSending at core h old core h' new
 
--- the same of one that is to be given up for a cause, if there is one
+-- a link agrees; or where there is a cause, it is to be given up for that
 abbrev pub LineUnless : Option Cause → ℕ → List Step → List WireEvent → Link → Type 0
 LineUnless None = LineAgrees
 LineUnless (Some cause) = LineFails (Some cause)
@@ -104,7 +105,7 @@ over_by got.Full = None
 over_by got.Ended = Some causes.Closed
 over_by got.Failed = Some causes.Broken
 
--- the same of a read that may not have been made
+-- why a link's connection is over by what a read gave that may not have been made, if it is
 abbrev pub over_of : Option Got → Option Cause
 over_of None = None
 over_of (Some what) = over_by what
@@ -117,7 +118,7 @@ idle_cause got.Full = Some causes.NoRoom
 idle_cause got.Ended = Some causes.Closed
 idle_cause got.Failed = Some causes.Broken
 
--- and by whether what was to be sent could be written
+-- why a link's connection is over by whether what was to be sent could be written, if it is
 abbrev pub broken_unless : Bool → Option Cause
 broken_unless true = None
 broken_unless false = Some causes.Broken
@@ -183,7 +184,7 @@ AllLeave standing at history core sockets core' sockets' =
 abbrev pub AllGiveUp : {W : Type 0} → ℕ → Cause → (W → List WireEvent) → ServedCore → Sockets W → ServedCore → Sockets W → Type 0
 AllGiveUp at cause history core sockets core' sockets' = AllSendFrom (AgreesBut (LineFails (Some cause)) at) history core sockets core' sockets'
 
--- so it is with one that agrees, as that is wanted
+-- a link that agrees is given up, as that is wanted: its calls fail, and nothing else is done with the core
 abbrev pub AllDrop : {W : Type 0} → (W → List WireEvent) → ServedCore → Sockets W → ServedCore → Sockets W → Type 0
 AllDrop history core sockets core' sockets' = AllGo (IsGivingUp None) (end_of history core sockets) (end_of history core' sockets')
 
@@ -191,7 +192,7 @@ AllDrop history core sockets core' sockets' = AllGo (IsGivingUp None) (end_of hi
 abbrev pub AllGoFromUnless : {W : Type 0} → (Before : List Step → AnEnd → Type 0) → ℕ → Option Cause → (W → List WireEvent) → ServedCore → Sockets W → ServedCore → Sockets W → Type 0
 AllGoFromUnless Before at cause history core sockets core' sockets' = AllGoFrom Before (AgreesUnless at cause) IsOfTurn (end_of history core sockets) (end_of history core' sockets')
 
--- the same where all agree before
+-- where all agree before, the ends go on; only where the link at this place is to be given up for a cause, what that link holds may be lost
 abbrev pub AllGoUnless : {W : Type 0} → ℕ → Option Cause → (W → List WireEvent) → ServedCore → Sockets W → ServedCore → Sockets W → Type 0
 AllGoUnless at cause history core sockets core' sockets' = AllGoFromUnless Agrees at cause history core sockets core' sockets'
 
@@ -201,7 +202,7 @@ AllGoAccepted history conn core sockets core' sockets' =
     (h : List WireEvent) → IsUntold conn h → history sockets.wire ≡ accepts conn ∷ h
     → AllGo IsOfTurn (record { core = core; history = h; clients = sockets.clients; links = sockets.links.all.items }) (end_of history core' sockets')
 
--- and then a client was opened under this id in a core that is so now: all go on from before both
+-- a peer was just accepted by this new connection, and then a client was opened under this id in a core that is so now: all go on from before both
 abbrev pub AllGoOpened : {W : Type 0} → (W → List WireEvent) → (id conn : ℕ) → ServedCore → Sockets W → ServedCore → Sockets W → Type 0
 AllGoOpened history id conn core sockets core' sockets' = (before : ServedCore) → Does (Opened id) before core → AllGoAccepted history conn before sockets core' sockets'
 
@@ -213,7 +214,7 @@ MayAdmit conn id h h' = (h' ≡ admits conn id ∷ h) ⊎ (h' ≡ h)
 abbrev pub IsAllSent : Client → Type 0
 IsAllSent x = (bytes_of x.conn.unsent ≡ []) ⊎ (x.is_broken ≡ true)
 
--- so it is with the client of this id, if there is one
+-- nothing is to be sent to the client of this id, if there is one, or it is broken off
 abbrev pub IsAllSentTo : ℕ → Clients → Type 0
 IsAllSentTo id clients = IfSome (client_of clients id) IsAllSent
 
@@ -229,7 +230,7 @@ AllClose history id core sockets core' sockets' = AllGo (IsClosing id) (end_of h
 abbrev pub AllGiven : {W : Type 0} → (W → List WireEvent) → (id : ℕ) → ServedCore → Sockets W → ServedCore → Sockets W → Type 0
 AllGiven history id core sockets core' sockets' = AllGoFrom Agrees (AgreesGiven id) (IsClosing id) (end_of history core sockets) (end_of history core' sockets')
 
--- so it is with one client's end
+-- the core gave once what it had for this client, and nothing else is done with it; this client's end goes on with that
 abbrev pub OneGives : ℕ → ServedCore → List WireEvent → Client → ServedCore → List WireEvent → Client → Type 0
 OneGives id core h x core' h' y = (g : OneGoes (IsClosing id) id core h x core' h' y) × (bytes : List ℕ) × (g.steps ≡ Gave id bytes ∷ [])
 
@@ -268,6 +269,12 @@ AllGrow = AllGrowFrom Agrees Agrees
 abbrev pub IsLoadOf : Configuration → Step → Type 0
 IsLoadOf configuration step = (generation : ℕ) × (step ≡ Loaded configuration generation)
 
--- nothing is done with the core but that this configuration is loaded, and the ends go on with that
-abbrev pub AllLoad : {W : Type 0} → (W → List WireEvent) → Configuration → ServedCore → Sockets W → ServedCore → Sockets W → Type 0
-AllLoad history configuration core sockets core' sockets' = AllGrow (IsLoadOf configuration) (end_of history core sockets) (end_of history core' sockets')
+-- nothing is loaded, and links are to the servers that they were to, with the limits that they had; or this configuration alone, and there is one to each of these servers, which has these limits
+abbrev pub LinksLoad : Configuration → List (List ℕ) → (List ℕ → LinkLimits) → List Step → (old new : List Link) → Type 0
+LinksLoad configuration servers limits steps old new =
+    ((steps ≡ []) × (servers_of new ≡ servers_of old)) ⊎ ((generation : ℕ) × (steps ≡ Loaded configuration generation ∷ []) × AreLimited limits (servers_of new) × (texts_of new ≡ servers))
+
+-- nothing is done with the core but that this configuration is loaded, and the ends go on with that; there is a link to each of these servers then, with these limits
+pub record AllLoad {W : Type 0} (history : W → List WireEvent) (configuration : Configuration) (servers : List (List ℕ)) (limits : List ℕ → LinkLimits) (core : ServedCore) (sockets : Sockets W) (core' : ServedCore) (sockets' : Sockets W) : Type 0 where
+  pub grows : AllGrow (IsLoadOf configuration) (end_of history core sockets) (end_of history core' sockets')
+  pub links : LinksLoad configuration servers limits grows.steps sockets.links.all.items sockets'.links.all.items

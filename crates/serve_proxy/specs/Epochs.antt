@@ -12,7 +12,7 @@ have_one_address None other = false
 have_one_address (Some one) None = false
 have_one_address (Some one) (Some other) = bytes_eq (address_in one) (address_in other)
 
--- two servers do
+-- these two servers have one address
 abbrev pub share_address : Addresses → ℕ → ℕ → Bool
 share_address names one other = have_one_address (slice_get names one) (slice_get names other)
 
@@ -25,7 +25,7 @@ HaveEnded names at links =
 abbrev pub EpochIsInTurn : Addresses → List Link → ℕ → Type 0
 EpochIsInTurn names links at = (link : Link) → slice_get links at ≡ Some link → is_retired link ≡ false → (epoch_is_over names at ≡ false) × HaveEnded names at links
 
--- so it is with each of these servers, if some have epochs
+-- if some of these servers have epochs, calls go to each of them only once those before it at its address have none any more, and while none comes after it there
 abbrev pub EpochsAreInTurn : Addresses → List Link → Type 0
 EpochsAreInTurn names links = have_epochs names ≡ true → (at : ℕ) → at < length names → EpochIsInTurn names links at
 

@@ -43,7 +43,7 @@ module _ (opening : ℕ → List ℕ → Option Item) where
   abbrev pub GoesOnSaying : (List (Entry dialect) → Type 0) → List (Entry dialect) → (new : ServedCore) → ((later : List (Entry dialect)) → MayHaveLed opening later new → Type 0) → Type 0
   GoesOnSaying IsKind past new Holds = (entries : List (Entry dialect)) × IsKind entries × AreOwn entries × (led : MayHaveLed opening (entries ++ past) new) × Holds (entries ++ past) led
 
-  -- the same log may have led to the core after
+  -- the core stays, the log may have led to it, and this holds of that
   abbrev pub StaysOn : List (Entry dialect) → (old new : ServedCore) → ((later : List (Entry dialect)) → MayHaveLed opening later new → Type 0) → Type 0
   StaysOn past old new Holds = (new ≡ old) × (led : MayHaveLed opening past new) × Holds past led
 

@@ -21,10 +21,10 @@ pub record HasNoWork {W : Type 0} (sockets : Sockets W) : Type 0 where
   pub replies : sockets.clients.with_output.items ≡ []
   pub busy : sockets.is_freed ≡ true → sockets.clients.busy.items ≡ []
 
--- and so many calls are out
+-- nothing is ready, none that waits can go on, and so many calls are out
 abbrev pub AreStill : {W : Type 0} → ℕ → Sockets W → Type 0
 AreStill calls sockets = HasNoWork sockets × (calls_out sockets.links.all.items ≡ calls)
 
--- so it is with a proxy's end
+-- of a proxy's end nothing is ready, none that waits can go on, and so many calls are out
 abbrev pub EndIsStill : {W : Type 0} → ℕ → ProxyEnd W → Type 0
 EndIsStill calls end = AreStill calls end.sockets

@@ -86,6 +86,7 @@ fn accept_one<W: Wire>(core: &mut ServedCore, sockets: &mut Sockets<W>) -> bool
             false
         }
         Accepted::Refused => {
+            sockets.tally.note_unaccepted();
             let again = sockets.time.saturating_add(ACCEPT_PAUSE);
             sockets.accepting = Accepting::From(again);
             false
@@ -138,7 +139,7 @@ impl<W: Wire> Sockets<W> {
         }
     }
 
-    // The same of its end alone.
+    // The end of this client, by this connection, is one of the clients', and nothing else changes. Whether it could be.
     fn insert_new(&mut self, id: usize, conn: usize) -> bool
         ensures begins { result ≡ true → option_map end_said_of (client_of self.new.clients id) ≡ Some (conn, [], [], false, false) }
         ensures others { (other : ℕ) → other ≢ id → client_of self.new.clients other ≡ client_of self.old.clients other }

@@ -26,7 +26,7 @@ pub fn read_links<W: Wire>(core: &mut ServedCore, sockets: &mut Sockets<W>)
     sockets.work.end(links);
 }
 
-/// The link is read, and fails where it has failed by that. So is the connection whose end is awaited.
+/// The link is read, and fails where it has failed by that. The connection of it whose end is awaited, if there is one, is read too.
 pub fn serve_link<W: Wire>(core: &mut ServedCore, sockets: &mut Sockets<W>, at: usize)
     ensures ends { AllGoOn W.history core.old sockets.old core.new sockets.new }
 {
@@ -34,7 +34,7 @@ pub fn serve_link<W: Wire>(core: &mut ServedCore, sockets: &mut Sockets<W>, at: 
     serve_used(core, sockets, at)
 }
 
-// The same of the connection in use.
+// The link's connection in use is read, and the link fails where it has failed by that.
 fn serve_used<W: Wire>(core: &mut ServedCore, sockets: &mut Sockets<W>, at: usize)
     ensures ends { AllGoOn W.history core.old sockets.old core.new sockets.new }
 {
@@ -104,7 +104,8 @@ fn learn_and_settle<W: Wire>(
     )
 }
 
-// The same of the link alone.
+// What the server says to what it was asked first is taken from what the link holds, and then all whole answers are settled. Why the link fails by that,
+// if it does.
 fn settle_line(
     link: &mut Link,
     core: &mut ServedCore,
@@ -254,7 +255,7 @@ fn note_room(link: &Link) -> (bool, bool) {
     }
 }
 
-// Something came over it now, in microseconds: whether that may be news, as it stands by that, or is late.
+// Something came over it now, in microseconds: whether that may be news, as it stands by that, or its server was down.
 #[tactic(auto, using(crate::proofs::Staying::kept_line))]
 fn has_come(link: &mut Link, now: u64) -> bool
     ensures line { line_of link.new ≡ line_of link.old }
@@ -262,5 +263,5 @@ fn has_come(link: &mut Link, now: u64) -> bool
     link.calls.note_came(now);
     link.reads_long = link.may_have_more();
     let has_stood = link.stand();
-    has_stood || link.is_late()
+    has_stood || link.may_come_back()
 }

@@ -13,7 +13,7 @@ pub struct Budget {
     held: Vec<usize>,
     // For all.
     all: usize,
-    // And for all at most.
+    // How many may be held for all.
     most: usize,
     ghost summed: { all ≡ sum held.items },
 }
@@ -62,7 +62,7 @@ impl Budget {
         }
     }
 
-    // How many bytes were held for it when that was noted last.
+    // How many bytes were held for the client of this id when that was noted last.
     fn of(&self, id: usize) -> usize {
         match self.held.get(id) {
             Some(held) => *held,
@@ -70,7 +70,8 @@ impl Budget {
         }
     }
 
-    /// The same as `note`: whether more are free for others by that, where they were scarce.
+    /// So many bytes are held for the client of this id, so far as the sum of all can be counted. Whether more are free for others by that, where they
+    /// were scarce.
     pub fn note_freed(&mut self, id: usize, count: usize) -> bool
         ensures noted { self.new.held.items ≡ slice_set self.old.held.items id (min count (usize.MAX - others_than id self.old.held.items)) }
         ensures most { self.new.most ≡ self.old.most }

@@ -27,7 +27,7 @@ pub fn send_call<W: Wire, N: Net>(
     send_looked(net, core, sockets, id, ticket)
 }
 
-// The same, after that.
+// The call is written to its server's link or waits for it, or has failed, now that what came while nothing was out there was looked at.
 fn send_looked<W: Wire, N: Net>(
     net: &N,
     core: &mut ServedCore,

@@ -63,7 +63,7 @@ impl<W: Wire> Sockets<W> {
         if self.in_rounds { 1 } else { POLLS }
     }
 
-    /// Whether one of its commands may go on, or begin.
+    /// Whether a command of the client of this id may go on, or begin.
     pub fn may_go_on(&mut self, id: usize) -> bool
         ensures ends { Stay W.history self.old self.new }
         ensures share { result ≡ true → IfSome (client_of self.old.clients id) (MayGoOn (share_by self.old.stalls.budget.most (sum self.old.stalls.budget.held.items) self.old.links.settings.clients)) }
@@ -75,7 +75,7 @@ impl<W: Wire> Sockets<W> {
         }
     }
 
-    /// What its polls end with where none of its commands may go on or begin.
+    /// What the polls of the client of this id end with where none of its commands may go on or begin.
     pub fn rest_of(&self, id: usize) -> Rest {
         if self.stalls.budget.is_scarce() && self.clients.held(id) > 0 {
             Rest::Busy
@@ -84,7 +84,7 @@ impl<W: Wire> Sockets<W> {
         }
     }
 
-    /// The core is done with a message of it.
+    /// The core is done with a message of the client of this id.
     pub fn note_passed(&mut self, id: usize)
         ensures ends { Stay W.history self.old self.new }
     {
@@ -93,7 +93,7 @@ impl<W: Wire> Sockets<W> {
         }
     }
 
-    /// The core has refused a message of it, and is done with that. Whether it closed the client for it.
+    /// The core has refused a message of the client of this id, and is done with that: `is_closed` tells whether it closed the client for it.
     pub fn note_refused(&mut self, id: usize, is_closed: bool)
         ensures ends { Stay W.history self.old self.new }
     {
@@ -102,7 +102,7 @@ impl<W: Wire> Sockets<W> {
         }
     }
 
-    /// The core holds nothing of what it sent, if it is so.
+    /// The core holds nothing of what the client of this id sent, where `is_so` holds.
     pub fn end_input_if(&mut self, id: usize, is_so: bool)
         ensures ends { Stay W.history self.old self.new }
     {
@@ -148,7 +148,7 @@ impl<W: Wire> Sockets<W> {
         }
     }
 
-    /// Nothing more is read of it. Unless it had ended, that is why it goes.
+    /// Nothing more is read of the client of this id. Unless it had ended, that is why it goes.
     pub fn end_client(&mut self, id: usize, why: Departure)
         ensures ends { GoAlone W.history self.old self.new }
     {
@@ -157,7 +157,7 @@ impl<W: Wire> Sockets<W> {
         }
     }
 
-    /// What its polls ended with, and what may be done for it, is noted.
+    /// What the polls of the client of this id ended with, and what may be done for it, is noted.
     pub fn mark_rest(&mut self, id: usize, rest: Rest)
         ensures ends { Stay W.history self.old self.new }
     {
@@ -169,7 +169,7 @@ impl<W: Wire> Sockets<W> {
         self.mark_ready_if(id, is_more);
     }
 
-    // A command of it waits for a key or a server, if it is so.
+    // A command of the client of this id waits for a key or a server, where `is_busy` holds.
     fn mark_busy_if(&mut self, id: usize, is_busy: bool)
         ensures ends { Stay W.history self.old self.new }
     {
@@ -178,7 +178,7 @@ impl<W: Wire> Sockets<W> {
         }
     }
 
-    // The same of its end alone: whether more may be done for it.
+    // What the polls of the client of this id ended with is noted at its end: whether more may be done for it.
     fn note_rest(&mut self, id: usize, rest: Rest) -> bool
         ensures ends { Stay W.history self.old self.new }
     {
@@ -189,7 +189,7 @@ impl<W: Wire> Sockets<W> {
         }
     }
 
-    /// It is to be served, if it is so.
+    /// The client of this id is to be served, where `is_more` holds. What is held for each client stays.
     pub fn mark_ready_if(&mut self, id: usize, is_more: bool)
         ensures ends { Stay W.history self.old self.new }
         ensures held { HoldAlike self.old.clients self.new.clients }
@@ -199,7 +199,7 @@ impl<W: Wire> Sockets<W> {
         }
     }
 
-    /// Whether what is to be sent to it is held back in this turn. In rounds all is sent as it comes.
+    /// Whether what is to be sent to the client of this id is held back in this turn. In rounds all is sent as it comes.
     pub fn holds_back(&mut self, id: usize) -> bool
         ensures ends { Stay W.history self.old self.new }
     {
@@ -212,7 +212,7 @@ impl<W: Wire> Sockets<W> {
         }
     }
 
-    /// If it has nothing to send it keeps no large room for that: it is spare.
+    /// If nothing is to be sent to the client of this id, it keeps no large room for that: it is spare.
     pub fn take_room(&mut self, id: usize)
         ensures ends { Stay W.history self.old self.new }
     {
@@ -232,7 +232,7 @@ impl<W: Wire> Sockets<W> {
         close_if_any(&mut self.wire, conn);
     }
 
-    /// It is gone for this, and its connection is closed.
+    /// The client of this id, which the core has closed, is gone for this cause, and its connection is closed.
     pub fn remove_client(&mut self, id: usize, why: Departure)
         ensures ends { AllGoClosed W.history id self.old self.new }
     {
@@ -243,7 +243,7 @@ impl<W: Wire> Sockets<W> {
         self.note_held(id);
     }
 
-    /// Its end gives back the room in which nothing is left.
+    /// The end of the client of this id gives back the room in which nothing is left.
     pub fn give_back_end(&mut self, id: usize)
         ensures ends { Stay W.history self.old self.new }
     {

@@ -20,7 +20,7 @@ pub fn end_quiet<W: Wire>(core: &mut ServedCore, sockets: &mut Sockets<W>)
     }
 }
 
-// The same of this one.
+// Nothing more is read of this client if nothing of it is under way. It is closed by the next turn then.
 fn end_if_quiet<W: Wire>(core: &mut ServedCore, sockets: &mut Sockets<W>, id: usize)
     ensures ends { AllGoOn W.history core.old sockets.old core.new sockets.new }
 {

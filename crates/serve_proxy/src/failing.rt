@@ -158,7 +158,8 @@ fn fail_calls<W: Wire>(core: &mut ServedCore, sockets: &mut Sockets<W>, at: usiz
     fail_waited(core, sockets, at)
 }
 
-// If one of those that are out is late by what the clock showed last, they have.
+// If one of the calls that are out on the link is late by what the clock showed last, all that are out have failed, but stores and those behind them where
+// stores are awaited however long they take. Else the core stays as it is.
 fn fail_sent<W: Wire>(core: &mut ServedCore, sockets: &mut Sockets<W>, at: usize)
     requires read { LinkIsRead at (time (W.history sockets.old.wire)) sockets.old.links.all.items }
     ensures ends { AllFailOn W.history core.old sockets.old core.new sockets.new }
@@ -284,7 +285,8 @@ impl<W: Wire> Sockets<W> {
         }
     }
 
-    // The same of a connection that was just given up: its end may be there at once.
+    // What has come over the link's connection that was just given up, and whose end is awaited, is thrown away: the end may be there at once. Where more
+    // may be there it is to be read again.
     fn drain_now(&mut self, at: usize)
         ensures ends { GoAlone W.history self.old self.new }
     {

@@ -11,7 +11,8 @@
 //! - A call of the core is written to its server's link, or waits there until the server takes more (`calls.rt`, `links.rt`).
 //! - What the links and the clients have to send is written to their sockets (`sending.rt`).
 //! - A server's answers are read, and settle the calls that are out, oldest first (`answers.rt`).
-//! - A link that broke, is late or brought what is no answer fails its calls (`failing.rt`).
+//! - A link that broke, is late or brought what is no answer fails its calls (`failing.rt`). How long each may take is said by a
+//!   configuration (`limiting.rt`).
 //! - Settled commands go on when their clients are polled next (`serving.rt`), and the core's replies go to the client's end
 //!   (`showing.rt`), from which they are sent. How long commands took is counted (`times.rt`).
 //! - Where it is to end, clients go once nothing of them is under way (`draining.rt`).
@@ -32,6 +33,7 @@ mod clock;
 mod draining;
 mod failing;
 pub mod laws;
+mod limiting;
 mod links;
 mod proxy;
 mod rooms;

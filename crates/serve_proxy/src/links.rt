@@ -1,8 +1,7 @@
 //! The links to the servers, by their numbers: which of them are to be read and written, when they are late, and what there is to tell
 //! of them. Nothing here knows the core.
 
-ghost use Rattle.std.specs.Prelude.{◌≡◌, ◌↔◌, Bool, true, false, None, Some, [], ◌∷◌, ◌++◌, drop, length, IsTrue, IsSome, IfOk, IfErr, OnOk, MatchOption, slice_get};
-ghost use Rattle.serve_links.specs.declared.settings.LinkLimits.{LinkLimits};
+ghost use Rattle.std.specs.Prelude.{◌≡◌, ◌↔◌, Bool, true, false, None, Some, [], ◌∷◌, ◌++◌, drop, take, length, IsTrue, IsSome, IfOk, IfErr, OnOk, OnErr, MatchOption, slice_get};
 ghost use Rattle.serve_links.specs.declared.link.Link.{Link};
 ghost use Rattle.serve_clients.specs.declared.clients.Clients.{Clients};
 ghost use Rattle.serve_links.specs.Lateness.{IsConnectLateAt, LinkIsRead};
@@ -11,21 +10,26 @@ ghost use Rattle.serve_links.specs.Epochs.{LinkIsQuiet};
 ghost use Rattle.route_json.specs.ServerNames.{epoch_is_over};
 ghost use Rattle.serve_proxy.specs.Epochs.{share_address, HaveEnded, EpochIsInTurn, EpochsAreInTurn, Retires};
 ghost use Rattle.serve_proxy.specs.Emptying.{AddsEach, EmptiesAt};
-ghost use Rattle.serve_proxy.specs.Limiting.{LimitsAt};
+ghost use Rattle.serve_proxy.specs.Limiting.{value_limits, limited_by};
+ghost use Rattle.serde_json.specs.View.{view};
 ghost use Rattle.serve_links.specs.Story.{line_of, texts_of};
-ghost use Rattle.serve_proxy.specs.Ends.{link_lines, LinksTake, LinksGive, LineStands, LineTakes, HoldsAwaited, HoldsAwaitedAt, IsOpenAt, AsksIn, AwaitsLateAt, AwaitsNoneAt, EndsGo, AddsLines, with_limits};
+ghost use Rattle.serve_proxy.specs.Ends.{link_lines, LinksTake, LinksGive, LineStands, LineTakes, HoldsAwaited, HoldsAwaitedAt, IsOpenAt, AsksIn, AwaitsLateAt, AwaitsNoneAt, EndsGo, AddsLines};
 
 use crate::clock::earlier;
+use crate::limiting::limit_links;
 use crate::texts::{is_over, share_address, text_at};
+use core_accepted::LoadFault;
+use gate_check::ReloadFault;
 use mc_types::{Ask, Dialect};
 use route_json::addresses::Servers;
+use serde_json::Value;
 use serve_links::calls::SentCall;
 use serve_links::{Cause, KEPT_ROOM, Lateness, Link, LinkLimits, LinkNews, Opening, Settings};
 use serve_wire::{Ready, Wire};
 use std::alloc::{AllocError, Global};
 use std::net::Net;
 
-// What the system told of a link's connection, if it has one: whether it stands by that, which is news.
+// What the system told of a link's connection, if it has one: whether it stands by that, which may be news.
 #[tactic(auto, using(crate::proofs::Staying::kept_line))]
 fn note_told(link: &mut Link, told: Ready) -> Option<bool>
     ensures line { line_of link.new ≡ line_of link.old }
@@ -41,7 +45,7 @@ fn note_told(link: &mut Link, told: Ready) -> Option<bool>
     Some(told.writes && !told.closes && link.stand())
 }
 
-// The system is asked by now whether its connection stands: whether it does, which is news.
+// The system is asked by now whether its connection stands: whether it does, which may be news.
 #[tactic(auto, using(crate::proofs::Staying::kept_line))]
 fn look_at<W: Wire>(link: &mut Link, wire: &W, now: u64) -> bool
     ensures line { line_of link.new ≡ line_of link.old }
@@ -123,7 +127,7 @@ fn limit_of(link: &Link, settings: &Settings) -> Option<u64> {
     earlier(link.time_limit(settings), link.waiting_limit())
 }
 
-// It gives back the room that it doesn't need now. Whether it has much that it needs.
+// The link gives back the room that it doesn't need now. Whether it has much that it needs.
 fn give_back_line(link: &mut Link, alloc: Global) -> bool
     ensures line { line_of link.new ≡ line_of link.old }
 {
@@ -137,7 +141,7 @@ fn give_back_line(link: &mut Link, alloc: Global) -> bool
     }
 }
 
-// It comes to the end of these. Where memory is refused for that, one is missing there.
+// The link's number comes to the end of these. Where memory is refused for that, one is missing there.
 fn list(ids: &mut Vec<usize>, at: usize, is_short: &mut bool) {
     if ids.push(at).is_err() {
         *is_short = true;
@@ -228,6 +232,59 @@ impl Links {
         Ok(())
     }
 
+    // Whether the link of this number is to the server of this number.
+    fn is_of(&self, servers: &Servers, at: usize) -> bool
+        ensures { result ≡ true → slice_get (texts_of self.now.all.items) at ≡ slice_get servers.now at }
+    {
+        match (self.all.get(at), text_at(servers, at)) {
+            (Some(link), Some(text)) => link.text.as_slice() == text.as_bytes(),
+            _ => false,
+        }
+    }
+
+    // Whether there is a link to each of these servers, in their order, and to no others.
+    fn are_of(&self, servers: &Servers) -> bool
+        ensures { result ≡ true → texts_of self.now.all.items ≡ servers.now }
+    {
+        if self.all.len() != servers.len() {
+            return false;
+        }
+        for at in 0..self.all.len() {
+            if !self.is_of(servers, at) {
+                return false;
+            }
+        }
+        true
+    }
+
+    /// Only the first so many links are left.
+    pub fn go_back(&mut self, before: usize)
+        ensures { self.new.all.items ≡ take before self.old.all.items }
+    {
+        self.all.truncate(before);
+    }
+
+    /// From now on there is a link to each of these servers, in their order, and to no others: those that have none yet get one, as [`Links::add`] says.
+    ///
+    /// After a fault links are as they were. `OtherServers` comes where the first of these aren't the servers that have links, `NoMemory` where there was no memory for more links.
+    #[tactic(auto, using(crate::proofs::Growing::gone_back))]
+    pub fn bring(&mut self, servers: &Servers) -> Result<(), LoadFault>
+        ensures texts { OnOk result (texts_of self.new.all.items ≡ servers.now) }
+        ensures adds { OnOk result (AddsLines self.old.all.items self.new.all.items) }
+        ensures kept { OnErr result (link_lines self.new.all.items ≡ link_lines self.old.all.items) }
+    {
+        let before = self.all.len();
+        if self.add(servers).is_err() {
+            self.go_back(before);
+            return Err(LoadFault::Refused(ReloadFault::NoMemory));
+        }
+        if !self.are_of(servers) {
+            self.go_back(before);
+            return Err(LoadFault::OtherServers);
+        }
+        Ok(())
+    }
+
     // The server whose address this text names gets one, at the end.
     #[tactic(auto, using(crate::proofs::LinkTexts::added))]
     fn add_one(&mut self, text: &str) -> Result<(), AllocError>
@@ -252,22 +309,12 @@ impl Links {
         }
     }
 
-    /// The server of this number has these limits from now on.
-    pub fn limit(&mut self, at: usize, limits: LinkLimits)
-        ensures limited { LimitsAt at limits self.old.all.items self.new.all.items }
-        ensures rest { (any : LinkLimits) → with_limits any self.new.all.items ≡ with_limits any self.old.all.items }
+    /// Each server has the limits that the value of a configuration says of it, and these where it says none, from now on.
+    pub fn limit(&mut self, usual: LinkLimits, said: &Value)
+        ensures { self.new.all.items ≡ limited_by (value_limits usual (view said.now)) self.old.all.items }
     {
-        self.put_limits(at, limits);
-        self.note_limit(at)
-    }
-
-    fn put_limits(&mut self, at: usize, limits: LinkLimits)
-        ensures limited { LimitsAt at limits self.old.all.items self.new.all.items }
-        ensures rest { (any : LinkLimits) → with_limits any self.new.all.items ≡ with_limits any self.old.all.items }
-    {
-        if let Some(link) = self.all.get_mut(at) {
-            link.limit(limits);
-        }
+        limit_links(&mut self.all, usual, said);
+        self.note_limits()
     }
 
     /// How many milliseconds a call to this server may take.
@@ -385,7 +432,7 @@ impl Links {
         self.mark_told(at, told)
     }
 
-    /// Its connection stands, where that is news.
+    /// There may be news of the link of this number, where that is so.
     pub fn note_news(&mut self, at: usize, is_news: bool)
         ensures lines { link_lines self.new.all.items ≡ link_lines self.old.all.items }
     {
@@ -394,7 +441,7 @@ impl Links {
         }
     }
 
-    // It is to be read and written, where that was told.
+    // The link is to be read and written, where that was told.
     fn mark_told(&mut self, at: usize, told: Ready)
         ensures lines { link_lines self.new.all.items ≡ link_lines self.old.all.items }
     {
@@ -406,7 +453,7 @@ impl Links {
         }
     }
 
-    /// It is to be read.
+    /// The link of this number is to be read.
     pub fn mark_ready(&mut self, at: usize)
         ensures lines { link_lines self.new.all.items ≡ link_lines self.old.all.items }
     {
@@ -418,7 +465,7 @@ impl Links {
         }
     }
 
-    /// It stands no longer among those that are ready.
+    /// The link of this number is marked as one to be read no longer.
     pub fn end_ready(&mut self, at: usize)
         ensures lines { link_lines self.new.all.items ≡ link_lines self.old.all.items }
     {
@@ -427,7 +474,7 @@ impl Links {
         }
     }
 
-    /// It has something to send.
+    /// The link of this number has something to send.
     pub fn mark_output(&mut self, at: usize)
         ensures lines { link_lines self.new.all.items ≡ link_lines self.old.all.items }
     {
@@ -454,7 +501,7 @@ impl Links {
         }
     }
 
-    // It is listed where it is marked.
+    // The link of this number is listed where it is marked.
     fn list_one(&mut self, at: usize)
         ensures { self.new.all ≡ self.old.all }
     {
@@ -470,7 +517,7 @@ impl Links {
         }
     }
 
-    /// It stands no longer among those that have something to send.
+    /// The link of this number is marked as one that has something to send no longer.
     pub fn end_output(&mut self, at: usize)
         ensures lines { link_lines self.new.all.items ≡ link_lines self.old.all.items }
     {
@@ -479,7 +526,7 @@ impl Links {
         }
     }
 
-    /// Whether more may have come over it than was read.
+    /// Whether more may have come over the link of this number than was read.
     pub fn may_have_more(&self, at: usize) -> bool {
         match self.all.get(at) {
             Some(link) => link.may_have_more(),
@@ -487,7 +534,7 @@ impl Links {
         }
     }
 
-    /// It is to be read again, where that may give more.
+    /// The link of this number is to be read again, where that may give more.
     pub fn mark_rest(&mut self, at: usize)
         ensures lines { link_lines self.new.all.items ≡ link_lines self.old.all.items }
     {
@@ -496,7 +543,7 @@ impl Links {
         }
     }
 
-    /// The link's connection stands, which is news.
+    /// The link's connection stands, or its server answers, which may be news.
     pub fn has_stood(&mut self, at: usize)
         ensures lines { link_lines self.new.all.items ≡ link_lines self.old.all.items }
     {
@@ -504,8 +551,8 @@ impl Links {
         self.note_limit(at);
     }
 
-    /// The system is asked by now whether the link's connection stands, though it told of nothing: whether it does, which is news, and it is to
-    /// be read and written. Where it stood before, it is to be read at once.
+    /// The system is asked by now whether the link's connection stands, though it told of nothing: whether it does, which may be news, and it
+    /// is to be read and written. Where it stood before, it is to be read at once.
     pub fn look_again<W: Wire>(&mut self, wire: &W, at: usize, now: u64) -> bool
         ensures lines { link_lines self.new.all.items ≡ link_lines self.old.all.items }
     {
@@ -593,7 +640,7 @@ impl Links {
         }
     }
 
-    /// So many calls of it have failed that never went out.
+    /// So many calls of the link of this number have failed that never went out.
     pub fn note_unsent(&mut self, at: usize, count: usize)
         ensures lines { link_lines self.new.all.items ≡ link_lines self.old.all.items }
     {
@@ -689,6 +736,7 @@ impl Links {
 
     /// All were looked at: none is late before the first of them is.
     pub fn note_limits(&mut self)
+        ensures all { self.new.all ≡ self.old.all }
         ensures lines { link_lines self.new.all.items ≡ link_lines self.old.all.items }
     {
         let mut first = None;
@@ -738,7 +786,7 @@ impl Links {
         self.all.get_mut(at)?.take_news(time)
     }
 
-    /// They give back the room that they don't need now. Whether one has much that it needs.
+    /// The links give back the room that they don't need now. Whether one has much that it needs.
     pub fn give_back(&mut self) -> bool
         ensures lines { link_lines self.new.all.items ≡ link_lines self.old.all.items }
     {
@@ -749,7 +797,7 @@ impl Links {
         has_room
     }
 
-    // One of them does.
+    // The link of this number gives back the room that it doesn't need now. Whether it has much that it needs.
     fn give_back_at(&mut self, at: usize) -> bool
         ensures lines { link_lines self.new.all.items ≡ link_lines self.old.all.items }
     {

@@ -3,19 +3,20 @@
 
 ghost use Rattle.std.specs.Prelude.{◌≡◌, ◌↔◌, ◌≤◌, [], ◌∷◌, ◌++◌, drop, length, true, IsTrue, IfOk, IfErr, OnOk, OnErr};
 ghost use Rattle.core_accepted.specs.Loading.{IsLoaded};
+ghost use Rattle.serde_json.specs.View.{view};
 ghost use Rattle.serve_wire.specs.Events.{looks_up};
 ghost use Rattle.serve_links.specs.CoreSteps.{GoesOn, OnlyFails};
 ghost use Rattle.serve_links.specs.Lateness.{usual_limits};
 ghost use Rattle.serve_links.specs.Links.{IsDownAt, IsClosedAt};
-ghost use Rattle.serve_links.specs.Story.{Agrees, texts_of};
+ghost use Rattle.serve_links.specs.Story.{Agrees, texts_of, servers_of};
 ghost use Rattle.serve_proxy.specs.Ends.{Stay, StayButLimits, end_of, AllGoOn, AllDrop, AllLoad, HasNoConns};
 ghost use Rattle.core_accepted.specs.Logs.{TreesAreSound};
 ghost use Rattle.serve_proxy.specs.LogsGoOn.{LogsAreFresh};
 ghost use Rattle.serve_proxy.specs.Stalls.{held_by_all};
 ghost use Rattle.serve_proxy.specs.Stillness.{EndIsStill};
-ghost use Rattle.serve_proxy.specs.Beginning.{BeginsFresh, BeginsUnchecked, LoadStops};
+ghost use Rattle.serve_proxy.specs.Beginning.{BeginsFresh, BeginsUnchecked};
 ghost use Rattle.serve_proxy.specs.Emptying.{EmptiesAt};
-ghost use Rattle.serve_proxy.specs.Limiting.{LimitsAt};
+ghost use Rattle.serve_proxy.specs.Limiting.{value_limits, AreLimited};
 ghost use Rattle.serve_proxy.specs.Epochs.{EpochsAreInTurn};
 
 use crate::accepting::accept_ready;
@@ -32,10 +33,11 @@ use crate::sockets::Sockets;
 use crate::stalls::{USUAL_MOST, close_slow};
 use core_accepted::laws::{accepted_trees_are_sound, begun_core_is_fresh};
 use core_accepted::{Beginnings, CoreTally, LoadFault, ServedCore};
-use gate_check::{Accepted, ReloadFault};
+use gate_check::Accepted;
 use route_json::Config;
-use route_json::addresses::{Servers, address_in};
+use route_json::addresses::Servers;
 use route_tree::Tree;
+use serde_json::Value;
 use serve_links::{CallTally, Cause, Link, LinkLimits, LinkNews, Settings, Tally};
 use serve_wire::{Lead, Wire};
 use std::alloc::{AllocError, Global};
@@ -156,35 +158,47 @@ impl<W: Wire> ProxyEnd<W> {
         ensures links { self.new.sockets.links ≡ self.old.sockets.links }
         ensures ends { Stay W.history self.old.sockets self.new.sockets }
     {
-        self.sockets
-            .wire
-            .resolve(net, text.as_bytes(), address_in(text).as_bytes())
+        self.sockets.wire.resolve(net, text.as_bytes())
     }
 
     /// Where the address in a server's name leads now, beside the machine to which connections are begun. Nothing changes by that. An error comes
     /// where it leads nowhere.
     pub fn look_again<N: Net>(&self, net: &N, text: &str) -> io::Result<Lead> {
-        self.sockets
-            .wire
-            .look_again(net, text.as_bytes(), address_in(text).as_bytes())
+        self.sockets.wire.look_again(net, text.as_bytes())
     }
 
     /// Commands that begin from now on run by this configuration's tree, and those that are under way end on the trees on which they
-    /// began. It gives the number of the generation. `servers` are all its servers, of which those in use keep their texts.
+    /// began. It gives the number of the generation. `servers` are all its servers: those in use first, by the names that they have.
     ///
-    /// After a fault the tree in use is kept; `NoMemory` may also come after the tree was loaded, and then calls of new servers fail.
-    pub fn load(&mut self, config: Config, servers: &Servers) -> Result<u32, LoadFault>
+    /// Each server has the limits then that the value of the configuration says of it, and these where it says none.
+    ///
+    /// After a fault the tree in use is kept, and so are the servers with their limits. `OtherServers` also comes where `servers` doesn't begin with those in use,
+    /// and `NoMemory` where there was no memory for links to new ones.
+    pub fn load(
+        &mut self,
+        config: Config,
+        servers: &Servers,
+        usual: LinkLimits,
+        said: &Value,
+    ) -> Result<u32, LoadFault>
         ensures loaded { IfOk result (λ generation. IsLoaded self.old.core.value config generation self.new.core.value) }
-        ensures refused { IfErr result (λ fault. LoadStops self.old.core.value config fault self.new.core.value) }
-        ensures ends { AllLoad W.history config self.old.core.value self.old.sockets self.new.core.value self.new.sockets }
+        ensures refused { OnErr result (self.new.core.value ≡ self.old.core.value) }
+        ensures ends { AllLoad W.history config servers.now (value_limits usual (view said.now)) self.old.core.value self.old.sockets self.new.core.value self.new.sockets }
         ensures wire { self.new.sockets.wire ≡ self.old.sockets.wire }
-        ensures texts { OnOk result (texts_of self.new.sockets.links.all.items ≡ texts_of self.old.sockets.links.all.items ++ drop (length self.old.sockets.links.all.items) servers.now) }
+        ensures texts { OnOk result (texts_of self.new.sockets.links.all.items ≡ servers.now) }
     {
-        let generation = self.core.load(self.sockets.alloc, config)?;
-        if self.sockets.links.add(servers).is_err() {
-            return Err(LoadFault::Refused(ReloadFault::NoMemory));
+        let before = self.sockets.links.all.len();
+        self.sockets.links.bring(servers)?;
+        match self.core.load(self.sockets.alloc, config) {
+            Ok(generation) => {
+                self.sockets.links.limit(usual, said);
+                Ok(generation)
+            }
+            Err(fault) => {
+                self.sockets.links.go_back(before);
+                Err(fault)
+            }
         }
-        Ok(generation)
     }
 
     /// The server of this number is emptied, by `flush_all`, before its first call.
@@ -196,16 +210,16 @@ impl<W: Wire> ProxyEnd<W> {
         self.sockets.links.empty_first(server);
     }
 
-    /// The server of this number has these limits from now on.
-    pub fn limit(&mut self, server: usize, limits: LinkLimits)
-        ensures limited { LimitsAt server limits self.old.sockets.links.all.items self.new.sockets.links.all.items }
+    /// Each server has the limits that the value of a configuration says of it, and these where it says none, from now on.
+    pub fn limit(&mut self, usual: LinkLimits, said: &Value)
+        ensures limited { AreLimited (value_limits usual (view said.now)) (servers_of self.new.sockets.links.all.items) }
         ensures core { self.new.core ≡ self.old.core }
         ensures ends { StayButLimits W.history self.old.sockets self.new.sockets }
     {
-        self.sockets.links.limit(server, limits);
+        self.sockets.links.limit(usual, said);
     }
 
-    /// The limits of a server that has none of its own.
+    /// The limits of a server of which nothing is said.
     pub fn usual_limits(&self) -> LinkLimits
         ensures { result ≡ usual_limits self.now.sockets.links.settings }
     {
@@ -242,7 +256,8 @@ impl<W: Wire> ProxyEnd<W> {
         self.sockets.stalls.bound(ms, most);
     }
 
-    /// How many clients were closed for that since it was told last. It is told once a second at most.
+    /// How many clients were closed as they took nothing for too long, or as too much was held and most for them
+    /// ([`bound_clients`](ProxyEnd::bound_clients)), since that was told last. It is told once a second at most.
     pub fn next_stalled(&mut self) -> Option<u64>
         ensures core { self.new.core ≡ self.old.core }
         ensures ends { Stay W.history self.old.sockets self.new.sockets }
@@ -269,8 +284,8 @@ impl<W: Wire> ProxyEnd<W> {
         self.sockets.wire.stop_accepting();
     }
 
-    /// Nothing more is read of clients of which nothing is under way: all that came of them is done, and all replies were sent. Each of them is
-    /// closed by the next turn.
+    /// Nothing more is read of clients of which nothing is under way: all that came of them is done, and all replies were sent. The next turn closes
+    /// each of them. By calls of the core, loads aside, all ends go on.
     pub fn end_quiet(&mut self)
         ensures core { GoesOn self.old.core.value self.new.core.value }
         ensures ends { AllGoOn W.history self.old.core.value self.old.sockets self.new.core.value self.new.sockets }
@@ -286,8 +301,8 @@ impl<W: Wire> ProxyEnd<W> {
         self.sockets.in_rounds = true;
     }
 
-    /// What its core has done so far: clients opened and turned away, commands ended, in all and of each operation by their replies, and calls given
-    /// out, answered and failed. Each count is of just that, as far as it goes ([`serve_links::laws::steps_are_counted`]).
+    /// What its core has done so far: clients opened and turned away, messages refused, commands ended, in all and of each operation by their
+    /// replies, and calls given out, answered and failed. Each count is of just that, as far as it goes ([`serve_links::laws::steps_are_counted`]).
     pub fn core_tally(&self) -> CoreTally
         ensures { result ≡ self.now.core.value.tally }
     {
@@ -337,8 +352,11 @@ impl<W: Wire> ProxyEnd<W> {
 
     /// One turn: a wait until something is ready or late, and then all that is ready is done.
     ///
-    /// The only error is the system's, of its clock or of the wait: nothing was done then. Where memory is refused for what is done, a client
-    /// is closed or its commands fail, and others go on.
+    /// By calls of the core, loads aside, all ends go on: where they agreed with all calls before the turn, they agree with all calls after it. At the
+    /// end of the turn no more bytes are held for all clients together than [`bound_clients`](ProxyEnd::bound_clients) sets.
+    ///
+    /// The only error is the system's, of its clock or of the wait: the core is then as it was. Where memory is refused for what is done, a client
+    /// is closed or its commands fail.
     pub fn turn<R: Net + Clock>(&mut self, rt: &R) -> io::Result<()>
         ensures core { GoesOn self.old.core.value self.new.core.value }
         ensures ends { AllGoOn W.history self.old.core.value self.old.sockets self.new.core.value self.new.sockets }
@@ -350,7 +368,13 @@ impl<W: Wire> ProxyEnd<W> {
         run_turn(rt, self.core.as_mut(), &mut self.sockets, limit, self.most)
     }
 
-    /// The same, but it waits this long at most, so that several ends can be turned in one thread.
+    /// One turn whose wait ends after this long at the latest, so that several ends can be turned in one thread.
+    ///
+    /// By calls of the core, loads aside, all ends go on: where they agreed with all calls before the turn, they agree with all calls after it. At the
+    /// end of the turn no more bytes are held for all clients together than [`bound_clients`](ProxyEnd::bound_clients) sets.
+    ///
+    /// The only error is the system's, of its clock or of the wait: the core is then as it was. Where memory is refused for what is done, a client
+    /// is closed or its commands fail.
     pub fn turn_within<R: Net + Clock>(&mut self, rt: &R, most: Duration) -> io::Result<()>
         ensures core { GoesOn self.old.core.value self.new.core.value }
         ensures ends { AllGoOn W.history self.old.core.value self.old.sockets self.new.core.value self.new.sockets }
@@ -363,7 +387,8 @@ impl<W: Wire> ProxyEnd<W> {
         run_turn(rt, self.core.as_mut(), &mut self.sockets, limit, self.most)
     }
 
-    /// What was held back goes to its clients, as far as they take it: for whoever turns it no more.
+    /// What was held back goes to its clients, as far as they take it: for whoever turns it no more. By calls of the core, loads aside, all ends go
+    /// on: where they agreed with all calls before, they agree with all calls after.
     pub fn end_turns(&mut self)
         ensures core { GoesOn self.old.core.value self.new.core.value }
         ensures ends { AllGoOn W.history self.old.core.value self.old.sockets self.new.core.value self.new.sockets }

@@ -113,7 +113,7 @@ fn has_much(link: &Link) -> bool {
     }
 }
 
-// The same of the link alone.
+// What is to be sent over the link's connection goes out, as far as it is taken. Whether the link stands still.
 fn send_line<W: Wire>(link: &mut Link, wire: &mut W) -> bool
     ensures stands { (at : ℕ) → LineStandsUnless (broken_unless result) at (W.history wire.old) (W.history wire.new) link.old link.new }
 {

@@ -282,7 +282,7 @@ fn is_over<W: Wire>(core: &ServedCore, sockets: &mut Sockets<W>, id: usize, rest
     }
 }
 
-// The same of its end.
+// Whether the client of this end has ended, and nothing is left to do for it.
 fn is_done(core: &ServedCore, id: usize, client: &Client, rest: Rest) -> bool {
     let is_ended = client.is_ended || core.is_closed(id);
     // Bytes that were left unread would take the last replies with them when the socket is closed.
@@ -302,7 +302,7 @@ fn has_all<W: Wire>(core: &mut ServedCore, sockets: &mut Sockets<W>, id: usize) 
     }
 }
 
-// The same of its end.
+// Whether the core has no more for the client of this end, and all was sent to it.
 fn end_has_all(core: &mut ServedCore, id: usize, client: &mut Client) -> bool
     ensures one { (h : List WireEvent) → OneGoes (IsClosing id) id core.old h client.old core.new h client.new }
     ensures given { result ≡ true → (h : List WireEvent) → OneGives id core.old h client.old core.new h client.new }

@@ -92,7 +92,8 @@ fn exchange_room<W: Wire>(
     sockets.rooms.keep_spare(buffer, sockets.time);
 }
 
-// The same, but that what it wrote into so far is left in the buffer. Without its client's end the core keeps what it has.
+// The core, which has nothing for the client, writes into this buffer from now on, and what it wrote into so far is left in the buffer. Without the
+// client's end the core keeps what it has.
 fn exchange_at<W: Wire>(
     core: &mut ServedCore,
     sockets: &mut Sockets<W>,
@@ -106,7 +107,8 @@ fn exchange_at<W: Wire>(
     }
 }
 
-// The same of its end. Where the core has something for the client after all, that is lost, and so the client is broken off.
+// The core, which has nothing for the client of this end, writes into this buffer from now on, and what it wrote into so far is left in the buffer. Where
+// it has something for the client after all, that is lost, and so the client is broken off.
 fn exchange_end(core: &mut ServedCore, id: usize, client: &mut Client, buffer: &mut SendBuffer)
     ensures one { (h : List WireEvent) → OneGoes IsOfTurn id core.old h client.old core.new h client.new }
 {

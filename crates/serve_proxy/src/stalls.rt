@@ -146,7 +146,7 @@ impl Stalls {
         self.note_if_none(after > MUCH, now.saturating_add(self.ms));
     }
 
-    // The same, but for when it has stalled.
+    // The client was written now: since when it takes nothing of much is noted, by how many bytes were to be sent before and are after.
     fn note_since(&mut self, id: usize, before: usize, after: usize, now: u64)
         ensures since { self.new.since.items ≡ slice_set self.old.since.items id (since_by before after now (since_of self.old id)) }
     {
@@ -359,7 +359,7 @@ impl<W: Wire> Sockets<W> {
         }
     }
 
-    // The same, and how many.
+    // The client for which most bytes are held, and how many. There is none only where nobody is there.
     fn greatest_with(&self) -> Option<(usize, usize)>
         ensures most { IfSome result (λ found. HasMost self.now.clients found.0) }
         ensures none { result ≡ None → self.now.clients.all.items ≡ [] }

@@ -53,14 +53,14 @@ pub trait Wire {
     fn stop_accepting(&mut self)
         ensures { history self.new ≡ history self.old };
 
-    /// Looks up an address, which is where this text names a server from now on, so that connections to it can be begun without a wait.
-    fn resolve<N: Net>(&mut self, net: &N, text: &[u8], address: &[u8]) -> io::Result<()>
+    /// Looks up the address in a server's name, which is where connections to it go from now on, so that they can be begun without a wait.
+    fn resolve<N: Net>(&mut self, net: &N, text: &[u8]) -> io::Result<()>
         ensures { history self.new ≡ looks_up text.now ∷ history self.old };
 
-    /// Where an address leads now, beside the machine that this text names. Nothing changes by that. An error comes where it leads nowhere.
-    fn look_again<N: Net>(&self, net: &N, text: &[u8], address: &[u8]) -> io::Result<Lead>;
+    /// Where the address in a server's name leads now, beside the machine to which connections go. Nothing changes by that. An error comes where it leads nowhere.
+    fn look_again<N: Net>(&self, net: &N, text: &[u8]) -> io::Result<Lead>;
 
-    /// Begins a connection to this server, at the address that its text was found to name. It is reported as this server's.
+    /// Begins a connection to this server, where the address in its name was found to lead. It is reported as this server's.
     fn connect<N: Net>(&mut self, net: &N, server: usize, text: &[u8]) -> Connected
         ensures { Connects result server text.now (history self.old) (history self.new) };
 

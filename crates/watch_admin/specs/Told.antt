@@ -67,6 +67,10 @@ came_counts clients = one_labelled (codes "verdict") (codes "accepted") clients.
 abbrev pub TellsClients : ClientNumbers → List Family → Type 0
 TellsClients clients families = IsAmong (Tells (codes "mcgate_client_connections_total") (came_counts clients)) families
 
+-- mcgate_bad_messages_total: how many of their messages were refused
+abbrev pub TellsMessages : ClientNumbers → List Family → Type 0
+TellsMessages clients families = IsAmong (Tells (codes "mcgate_bad_messages_total") (([], Count clients.bad_messages) ∷ [])) families
+
 abbrev pub ended_counts : CallNumbers → List Labelled
 ended_counts calls = one_labelled (codes "outcome") (codes "answered") calls.answered ∷ one_labelled (codes "outcome") (codes "failed") calls.failed ∷ []
 

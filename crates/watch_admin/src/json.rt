@@ -31,7 +31,7 @@ fn write_labels<W: Write>(labels: &[Label], out: &mut W) -> io::Result<()>
 fn write_sample<W: Write>(sample: &Sample, out: &mut W) -> io::Result<()>
     ensures { OnOk result (Appends (W.contents out.old) (W.contents out.new) (sample_json sample.now)) }
 {
-    write!(out, "{{")?;
+    out.write_all(b"{")?;
     write_labels(sample.labels.as_slice(), out)?;
     let amount = sample.amount;
     write!(out, "\"value\":{amount}}}")
@@ -46,7 +46,7 @@ fn write_each<W: Write>(samples: &[Sample], out: &mut W) -> io::Result<()>
     };
     write_sample(first, out)?;
     for sample in rest {
-        write!(out, ",")?;
+        out.write_all(b",")?;
         write_sample(sample, out)?;
     }
     Ok(())
@@ -55,9 +55,9 @@ fn write_each<W: Write>(samples: &[Sample], out: &mut W) -> io::Result<()>
 fn write_array<W: Write>(samples: &[Sample], out: &mut W) -> io::Result<()>
     ensures { OnOk result (Appends (W.contents out.old) (W.contents out.new) (array_json samples.now)) }
 {
-    write!(out, "[")?;
+    out.write_all(b"[")?;
     write_each(samples, out)?;
-    write!(out, "]")
+    out.write_all(b"]")
 }
 
 // Writes `{"le":[..]`.
@@ -85,7 +85,7 @@ fn write_counts<W: Write>(spread: &Spread, out: &mut W) -> io::Result<()>
 {
     write!(out, ",\"n\":")?;
     write_array(spread.counts.as_slice(), out)?;
-    write!(out, "}}")
+    out.write_all(b"}")
 }
 
 // Writes `{"le":[..],"sum":[..],"n":[..]}`.
@@ -136,7 +136,7 @@ fn write_families<W: Write>(families: &[Family], out: &mut W) -> io::Result<()>
 pub fn write_json<W: Write>(families: &[Family], out: &mut W) -> io::Result<()>
     ensures { OnOk result (Appends (W.contents out.old) (W.contents out.new) (object_json families.now)) }
 {
-    write!(out, "{{")?;
+    out.write_all(b"{")?;
     write_families(families, out)?;
     writeln!(out, "}}")
 }

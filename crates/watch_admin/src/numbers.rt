@@ -2,7 +2,7 @@
 
 ghost use Rattle.std.specs.Prelude.{◌≡◌, ◌++◌, [], ◌∷◌, IfOk, OnOk, codes, string_bytes, map as each_of, flat_map};
 ghost use Rattle.watch_admin.specs.declared.families.Amount.TheVariants.{Count};
-ghost use Rattle.watch_admin.specs.Told.{label_read, sample_read, command_count, command_counts, one_labelled, came_counts, ended_counts, TellsCommands, TellsClients, TellsCalls, Tells, IsAmong, AddsTo};
+ghost use Rattle.watch_admin.specs.Told.{label_read, sample_read, command_count, command_counts, one_labelled, came_counts, ended_counts, TellsCommands, TellsClients, TellsMessages, TellsCalls, Tells, IsAmong, AddsTo};
 
 use crate::families::{Amount, Family, Label, MetricKind, Sample, Samples, Spread};
 use std::alloc::{AllocError, Global};
@@ -11,6 +11,8 @@ use std::alloc::{AllocError, Global};
 #[derive(Drop)]
 pub struct ProcessNumbers {
     pub version: String,
+    /// Whether it was proved before it was built.
+    pub proved: bool,
     /// For how long it has run.
     pub uptime_ms: u64,
     /// How long processors worked for it.
@@ -52,6 +54,11 @@ pub struct ClientNumbers {
     pub accepted: u64,
     /// How many were turned away, as there were too many.
     pub refused: u64,
+    /// How many of their messages were no valid commands, or had too large data: each was answered by an error, and no server was
+    /// asked.
+    pub bad_messages: u64,
+    /// How often the system refused to accept a connection.
+    pub unaccepted: u64,
     /// How many bytes were read of them.
     pub read_bytes: u64,
     /// How many bytes there were to send to them.
@@ -147,6 +154,8 @@ pub struct ServerNumbers {
     pub failures: Vec<CauseNumbers>,
     /// How many calls that went out to it were answered.
     pub answered: u64,
+    /// How many of those were answered by an error.
+    pub errors: u64,
     /// How many have failed.
     pub failed: u64,
     /// How many have failed that never went out.
@@ -245,6 +254,14 @@ fn failure_sample(
     Ok(failed)
 }
 
+// The program.
+fn build_sample(alloc: Global, process: &ProcessNumbers) -> Result<Sample, AllocError> {
+    let proved = if process.proved { "true" } else { "false" };
+    let mut built = sample(alloc, "version", process.version.as_str(), 1)?;
+    built.labels.push(label(alloc, "proved", proved)?)?;
+    Ok(built)
+}
+
 fn add_process(
     alloc: Global,
     process: &ProcessNumbers,
@@ -253,11 +270,11 @@ fn add_process(
     ensures { OnOk result (AddsTo families.old.items families.new.items) }
 {
     let mut builds = Vec::new(alloc);
-    builds.push(sample(alloc, "version", process.version.as_str(), 1)?)?;
+    builds.push(build_sample(alloc, process)?)?;
     families.push(each(
         "mcgate_build_info",
         MetricKind::Gauge,
-        "The version that runs.",
+        "The version that runs, and whether it was proved.",
         builds,
     ))?;
     families.push(one(
@@ -371,7 +388,7 @@ fn gone_samples(alloc: Global, departures: &[CauseNumbers]) -> Result<Vec<Sample
     Ok(gone)
 }
 
-// How many have gone, and what came of them and went to them.
+// How often none could be accepted, how many have gone, and what came of them and went to them.
 fn add_traffic(
     alloc: Global,
     clients: &ClientNumbers,
@@ -380,6 +397,11 @@ fn add_traffic(
 ) -> Result<(), AllocError>
     ensures { OnOk result (AddsTo families.old.items families.new.items) }
 {
+    families.push(counter(
+        "mcgate_accept_failures_total",
+        "How often the system refused to accept a connection: too many descriptors were open, or no memory was left.",
+        clients.unaccepted,
+    ))?;
     families.push(each(
         "mcgate_clients_closed_total",
         MetricKind::Counter,
@@ -415,6 +437,20 @@ fn add_clients(
     ))?;
     add_came(alloc, clients, families)?;
     add_traffic(alloc, clients, departures, families)
+}
+
+// How many of their messages were refused.
+#[tactic(auto, using(crate::proofs::Told::last_is_among))]
+fn add_bad_messages(clients: &ClientNumbers, families: &mut Vec<Family>) -> Result<(), AllocError>
+    ensures adds { OnOk result (AddsTo families.old.items families.new.items) }
+    ensures told { OnOk result (TellsMessages clients.now families.new.items) }
+{
+    families.push(counter(
+        "mcgate_bad_messages_total",
+        "Messages of clients that were no valid commands, or had too large data, and were answered by an error.",
+        clients.bad_messages,
+    ))?;
+    Ok(())
 }
 
 // A number of an operation.
@@ -579,6 +615,7 @@ enum ServerCount {
     AtOnce,
     Connections,
     CallsOut,
+    Errors,
     CallLimit,
     ConnectLimit,
     FailLimit,
@@ -593,6 +630,7 @@ fn server_amount(server: &ServerNumbers, what: ServerCount) -> Amount {
         ServerCount::AtOnce => Amount::Count(u64::from(server.fails_at_once)),
         ServerCount::Connections => Amount::Count(server.connections),
         ServerCount::CallsOut => Amount::Count(server.calls_out),
+        ServerCount::Errors => Amount::Count(server.errors),
         ServerCount::CallLimit => Amount::Millis(server.limits.call_ms),
         ServerCount::ConnectLimit => Amount::Millis(server.limits.connect_ms),
         ServerCount::FailLimit => Amount::Count(server.limits.failures),
@@ -734,6 +772,12 @@ fn add_calls(
         "Calls of the server that have ended, by what became of them; those unsent have failed and never went out.",
         outcomes_of(alloc, servers)?,
     ))?;
+    families.push(each(
+        "mcgate_server_error_answers_total",
+        MetricKind::Counter,
+        "Answers of the server that were errors: ERROR, CLIENT_ERROR or SERVER_ERROR.",
+        server_samples(alloc, servers, ServerCount::Errors)?,
+    ))?;
     families.push(Family {
         name: "mcgate_server_call_seconds",
         kind: MetricKind::Histogram,
@@ -874,10 +918,14 @@ fn add_rest(
     Ok(())
 }
 
-/// The families of these numbers. The only error is that memory was refused.
+/// The families of these numbers. One of them, `mcgate_client_connections_total`, has just how many clients were accepted and refused; one,
+/// `mcgate_bad_messages_total`, how many of their messages were refused; one, `mcgate_commands_total`, of each operation how many commands ended with each
+/// kind of reply; and `mcgate_calls_made_total` and `mcgate_calls_total` have how many calls were made, and how many of them were answered and have
+/// failed. Of the numbers of other families no clause tells. The only error is that memory was refused.
 #[tactic(auto, using(crate::proofs::Told::more_then, crate::proofs::Told::stays_among))]
 pub fn families_of(alloc: Global, numbers: &Numbers) -> Result<Vec<Family>, AllocError>
     ensures clients { IfOk result (λ families. TellsClients numbers.now.clients families.items) }
+    ensures messages { IfOk result (λ families. TellsMessages numbers.now.clients families.items) }
     ensures commands { IfOk result (λ families. TellsCommands numbers.now.commands.items families.items) }
     ensures calls { IfOk result (λ families. TellsCalls numbers.now.calls families.items) }
 {
@@ -887,6 +935,7 @@ pub fn families_of(alloc: Global, numbers: &Numbers) -> Result<Vec<Family>, Allo
     add_config(alloc, &numbers.config, sum, &numbers.refusal, &mut families)?;
     let departures = numbers.departures.as_slice();
     add_clients(alloc, &numbers.clients, departures, &mut families)?;
+    add_bad_messages(&numbers.clients, &mut families)?;
     add_commands(alloc, numbers.commands.as_slice(), &mut families)?;
     add_command_times(alloc, &numbers.command_times, &mut families)?;
     add_all_calls(alloc, &numbers.calls, &mut families)?;
@@ -909,11 +958,12 @@ fn refusal_samples(
     Ok(samples)
 }
 
-/// The same families, and one for whoever takes texts too: the line of the last text that was refused, with its time. The only error is that
-/// memory was refused.
+/// The families of these numbers, and one for whoever takes texts too: the line of the last text that was refused, with its time. The counts of clients,
+/// of refused messages, of commands and of calls stand at their names, as [`families_of`] says. The only error is that memory was refused.
 #[tactic(auto, using(crate::proofs::Told::one_more, crate::proofs::Told::stays_among))]
 pub fn families_with_lines(alloc: Global, numbers: &Numbers) -> Result<Vec<Family>, AllocError>
     ensures clients { IfOk result (λ families. TellsClients numbers.now.clients families.items) }
+    ensures messages { IfOk result (λ families. TellsMessages numbers.now.clients families.items) }
     ensures commands { IfOk result (λ families. TellsCommands numbers.now.commands.items families.items) }
     ensures calls { IfOk result (λ families. TellsCalls numbers.now.calls families.items) }
 {

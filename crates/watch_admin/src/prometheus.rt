@@ -14,7 +14,8 @@ fn write_label<W: Write>(label: &Label, out: &mut W) -> io::Result<()>
     ensures { OnOk result (Appends (W.contents out.old) (W.contents out.new) (label_text label.now)) }
 {
     let value = Quoted(label.value.as_str());
-    write!(out, "{}={value}", label.name)
+    out.write_all(label.name.as_bytes())?;
+    write!(out, "={value}")
 }
 
 // Writes `NAME="VALUE",NAME="VALUE"`.
@@ -26,7 +27,7 @@ fn write_labels<W: Write>(labels: &[Label], out: &mut W) -> io::Result<()>
     };
     write_label(first, out)?;
     for label in rest {
-        write!(out, ",")?;
+        out.write_all(b",")?;
         write_label(label, out)?;
     }
     Ok(())
@@ -39,15 +40,16 @@ fn write_braced<W: Write>(labels: &[Label], out: &mut W) -> io::Result<()>
     if labels.is_empty() {
         return Ok(());
     }
-    write!(out, "{{")?;
+    out.write_all(b"{")?;
     write_labels(labels, out)?;
-    write!(out, "}}")
+    out.write_all(b"}")
 }
 
 fn write_name<W: Write>(name: &str, part: &str, out: &mut W) -> io::Result<()>
     ensures { OnOk result (Appends (W.contents out.old) (W.contents out.new) (name.now ++ part.now)) }
 {
-    write!(out, "{name}{part}")
+    out.write_all(name.as_bytes())?;
+    out.write_all(part.as_bytes())
 }
 
 fn write_amount<W: Write>(amount: Amount, out: &mut W) -> io::Result<()>

@@ -1,6 +1,6 @@
 //! A text within quotation marks.
 
-ghost use Rattle.std.specs.Prelude.{◌++◌, Some, codes};
+ghost use Rattle.std.specs.Prelude.{◌≡◌, ◌++◌, [], ◌∷◌, true, Some, codes};
 ghost use Rattle.watch_admin.specs.Quoted.{json_quoted_byte, quoted_bytes, json_quoted};
 
 use std::fmt;
@@ -40,6 +40,41 @@ impl Display for QuotedBytes<'_> {
     }
 }
 
+// Whether a byte stands for itself within quotation marks.
+fn is_plain(byte: u8) -> bool
+    ensures { result ≡ true → json_quoted_byte byte ≡ byte ∷ [] }
+{
+    31 < byte && byte < 127 && byte != 34 && byte != 92
+}
+
+// Whether each of these bytes does.
+fn are_plain(bytes: &[u8]) -> bool
+    ensures { result ≡ true → quoted_bytes bytes.now ≡ bytes.now }
+{
+    for byte in bytes {
+        if !is_plain(*byte) {
+            return false;
+        }
+    }
+    true
+}
+
+// A text as it stands within quotation marks. Most texts are plain, and are written at once.
+#[derive(Drop)]
+struct QuotedText<'a>(&'a str);
+
+impl Display for QuotedText<'_> {
+    ghost output = { λ t. Some (quoted_bytes t.0.now) };
+
+    fn fmt<W: fmt::Write>(&self, f: &mut fmt::Formatter<W>) -> fmt::Result {
+        if are_plain(self.0.as_bytes()) {
+            f.write_str(self.0)
+        } else {
+            QuotedBytes(self.0.as_bytes()).fmt(f)
+        }
+    }
+}
+
 /// A text within quotation marks, which JSON and Prometheus' text format read alike: a quotation mark and a backslash have a backslash
 /// before them, and a byte that isn't in 32..=126 is a `?`. No text of a server has such bytes.
 #[derive(Drop)]
@@ -50,7 +85,7 @@ impl Display for Quoted<'_> {
 
     fn fmt<W: fmt::Write>(&self, f: &mut fmt::Formatter<W>) -> fmt::Result {
         f.write_str("\"")?;
-        QuotedBytes(self.0.as_bytes()).fmt(f)?;
+        QuotedText(self.0).fmt(f)?;
         f.write_str("\"")
     }
 }

@@ -42,6 +42,9 @@ words: mcgate serve --client=10 => mcgate serve: unknown flag --client=10; did y
 words: mcgate serve --config c --listen a:1 --server-dialect met => mcgate serve: --server-dialect met: expected auto, classic or meta; did you mean meta?
 words: mcgate serve --config c --listen a:1 --opened empty => mcgate serve: --opened empty: expected any or own
 words: mcgate serve --config c --listen a:1 --new-servers emtpy => mcgate serve: --new-servers emtpy: expected any, empty or flush; did you mean empty?
+words: mcgate serve --config c --listen a:1 --listen b:2 => 
+words: mcgate serve --config c --listen a:1 --config d => mcgate serve: --config stands there twice
+words: mcgate cache --listen a:1 --capacity 5 --listen b:2 => mcgate cache: --listen stands there twice
 words: mcgate serve f => mcgate serve: one word too many: f
 words: mcgate cache --listen a:1 => mcgate cache: --capacity N is missing
 words: mcgate cache --listen a:1 --capacity 4294967296 => mcgate cache: --capacity 4294967296: expected a number in 1..=4294967295

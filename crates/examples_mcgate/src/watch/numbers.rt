@@ -12,9 +12,9 @@ use watch_admin::numbers::{
 use watch_admin::prometheus::write_prometheus;
 
 fn metrics() -> &'static str {
-    r#"# HELP mcgate_build_info The version that runs.
+    r#"# HELP mcgate_build_info The version that runs, and whether it was proved.
 # TYPE mcgate_build_info gauge
-mcgate_build_info{version="1"} 1
+mcgate_build_info{version="1",proved="true"} 1
 # HELP mcgate_uptime_seconds For how long it has run.
 # TYPE mcgate_uptime_seconds gauge
 mcgate_uptime_seconds 61.005
@@ -48,6 +48,9 @@ mcgate_clients 6
 # TYPE mcgate_client_connections_total counter
 mcgate_client_connections_total{verdict="accepted"} 7
 mcgate_client_connections_total{verdict="refused"} 8
+# HELP mcgate_accept_failures_total How often the system refused to accept a connection: too many descriptors were open, or no memory was left.
+# TYPE mcgate_accept_failures_total counter
+mcgate_accept_failures_total 31
 # HELP mcgate_clients_closed_total Clients that are gone, by why they went.
 # TYPE mcgate_clients_closed_total counter
 mcgate_clients_closed_total{cause="ended"} 9
@@ -56,6 +59,9 @@ mcgate_clients_closed_total{cause="stalled"} 27
 # TYPE mcgate_client_bytes_total counter
 mcgate_client_bytes_total{direction="in"} 10
 mcgate_client_bytes_total{direction="out"} 18446744073709551615
+# HELP mcgate_bad_messages_total Messages of clients that were no valid commands, or had too large data, and were answered by an error.
+# TYPE mcgate_bad_messages_total counter
+mcgate_bad_messages_total 30
 # HELP mcgate_commands_total Commands that have ended, one for each key: with an item in the reply, as an acknowledged delete, with an error, or otherwise.
 # TYPE mcgate_commands_total counter
 mcgate_commands_total{op="get",reply="item"} 11
@@ -113,6 +119,9 @@ mcgate_server_retry_seconds{server="\"a\\:1?"} 0.022
 mcgate_server_calls_total{server="\"a\\:1?",outcome="answered"} 18
 mcgate_server_calls_total{server="\"a\\:1?",outcome="failed"} 19
 mcgate_server_calls_total{server="\"a\\:1?",outcome="unsent"} 29
+# HELP mcgate_server_error_answers_total Answers of the server that were errors: ERROR, CLIENT_ERROR or SERVER_ERROR.
+# TYPE mcgate_server_error_answers_total counter
+mcgate_server_error_answers_total{server="\"a\\:1?"} 31
 # HELP mcgate_server_call_seconds How long the server's answers took, from when the call went out.
 # TYPE mcgate_server_call_seconds histogram
 mcgate_server_call_seconds_bucket{server="\"a\\:1?",le="0.0001"} 10
@@ -126,7 +135,7 @@ mcgate_scrapes_total 17
 }
 
 fn stats() -> &'static str {
-    r#"{"mcgate_build_info":[{"version":"1","value":1}],
+    r#"{"mcgate_build_info":[{"version":"1","proved":"true","value":1}],
 "mcgate_uptime_seconds":61.005,
 "mcgate_cpu_seconds_total":0.120,
 "mcgate_resident_memory_bytes":4096,
@@ -137,8 +146,10 @@ fn stats() -> &'static str {
 "mcgate_config_last_refused_timestamp_seconds":1700000000.028,
 "mcgate_clients":6,
 "mcgate_client_connections_total":[{"verdict":"accepted","value":7},{"verdict":"refused","value":8}],
+"mcgate_accept_failures_total":31,
 "mcgate_clients_closed_total":[{"cause":"ended","value":9},{"cause":"stalled","value":27}],
 "mcgate_client_bytes_total":[{"direction":"in","value":10},{"direction":"out","value":18446744073709551615}],
+"mcgate_bad_messages_total":30,
 "mcgate_commands_total":[{"op":"get","reply":"item","value":11},{"op":"get","reply":"acknowledged","value":12},{"op":"get","reply":"error","value":23},{"op":"get","reply":"other","value":13}],
 "mcgate_command_seconds":{"le":[{"le":"0.0001","value":10},{"le":"+Inf","value":18}],"sum":[{"value":2.000020}],"n":[{"value":18}]},
 "mcgate_calls_made_total":24,
@@ -155,6 +166,7 @@ fn stats() -> &'static str {
 "mcgate_server_fail_limit":[{"server":"\"a\\:1?","value":21}],
 "mcgate_server_retry_seconds":[{"server":"\"a\\:1?","value":0.022}],
 "mcgate_server_calls_total":[{"server":"\"a\\:1?","outcome":"answered","value":18},{"server":"\"a\\:1?","outcome":"failed","value":19},{"server":"\"a\\:1?","outcome":"unsent","value":29}],
+"mcgate_server_error_answers_total":[{"server":"\"a\\:1?","value":31}],
 "mcgate_server_call_seconds":{"le":[{"server":"\"a\\:1?","le":"0.0001","value":10},{"server":"\"a\\:1?","le":"+Inf","value":18}],"sum":[{"server":"\"a\\:1?","value":3.004050}],"n":[{"server":"\"a\\:1?","value":18}]},
 "mcgate_scrapes_total":17,
 "mcgate_config_last_refused":[{"line":"reload refused: too many places","value":1700000000.028}]}
@@ -164,6 +176,7 @@ fn stats() -> &'static str {
 fn process(alloc: Global) -> Result<ProcessNumbers, AllocError> {
     Ok(ProcessNumbers {
         version: String::from_str(alloc, "1")?,
+        proved: true,
         uptime_ms: 61_005,
         processor_ms: 120,
         resident_bytes: 4_096,
@@ -232,6 +245,7 @@ fn servers(alloc: Global) -> Result<Vec<ServerNumbers>, AllocError> {
         calls_out: 15,
         failures,
         answered: 18,
+        errors: 31,
         failed: 19,
         unsent: 29,
         answer_micros: 3_004_050,
@@ -258,6 +272,8 @@ fn numbers(alloc: Global) -> Result<Numbers, AllocError> {
             connected: 6,
             accepted: 7,
             refused: 8,
+            bad_messages: 30,
+            unaccepted: 31,
             read_bytes: 10,
             sent_bytes: u64::MAX,
         },

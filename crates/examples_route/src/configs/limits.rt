@@ -46,7 +46,7 @@ fn shown(alloc: Global, limits: ServerLimits) -> Result<String, AllocError> {
 
 fn told_of(alloc: Global, text: &str, server: &str) -> Result<String, AllocError> {
     match Value::from_str(alloc, text) {
-        Ok(value) => shown(alloc, limits_of(&value, server)),
+        Ok(value) => shown(alloc, limits_of(&value, server.as_bytes())),
         Err(error) => error.to_string(alloc),
     }
 }

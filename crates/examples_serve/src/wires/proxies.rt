@@ -8,6 +8,7 @@ use examples_tables::playing::{Stage, cut, first_line, play_lines, shown, yes_or
 use gate_check::{Accepted, judge};
 use route_json::addresses::Servers;
 use route_json::{Config, read_config, read_config_after};
+use serde_json::Value;
 use serve_proxy::{Beginnings, DEPARTURES, LinkNews, ProxyEnd, ServerDialect, Settings, text_at};
 use serve_wire::Wire;
 use serve_wire::memory::Memory;
@@ -18,8 +19,8 @@ use std::time::Duration;
 
 // Far ends have names that are numbers. `peer` begins the script of one, which then calls at a time or answers the next connection to a
 // host. `proxy` looks up the servers of its configuration and begins. `news` are those since they were asked for last. `times` are how many
-// commands ended in how many microseconds, and how many of these took how long. `gone` are how many clients have gone for what, and `unsent` how many
-// calls of a server have failed that never went out.
+// commands ended in how many microseconds, and how many of these took how long. `gone` are how many clients have gone for what, `unsent` how many
+// calls of a server have failed that never went out, and `errors` how many it answered by an error.
 fn texts() -> &'static str {
     r"Bytes come cut anywhere, and go out by the piece.
 host 127.0.0.1:5001
@@ -92,6 +93,47 @@ open 8 => no
 taken 9 => get b\r\n
 taken 1 => SERVER_ERROR call failed\r\nEND\r\n
 news => server 0: failed: reading or writing failed, 1 in a row; server 0: back
+
+A server that takes connections and answers nothing isn't back before it answers, also by an error.
+host 127.0.0.1:5001
+peer 7
+awaits 7
+ends
+answers 127.0.0.1:5001
+peer 8
+awaits 7
+ends
+answers 127.0.0.1:5001
+peer 9
+awaits 16
+until 7000
+sends SERVER_ERROR out of memory storing object\r\n
+awaits 23
+sends END\r\n
+awaits 39
+sends STORED\r\n
+awaits 55
+sends ERROR\r\n
+awaits 71
+sends CLIENT_ERROR bad\r\n
+answers 127.0.0.1:5001
+peer 1
+sends get a\r\n
+until 3000
+sends get b\r\n
+until 6500
+sends set c 0 0 1\r\n7\r\n
+awaits 95
+sends get a\r\nset d 0 0 1\r\n7\r\nset d 0 0 1\r\n7\r\nset d 0 0 1\r\n7\r\n
+calls 0
+proxy <one server>
+turn 40
+errors 0 => 0
+turn 80
+taken 1 => SERVER_ERROR call failed\r\nSERVER_ERROR call failed\r\nSERVER_ERROR out of memory storing object\r\nEND\r\nSTORED\r\nERROR\r\nCLIENT_ERROR bad\r\n
+open 9 => yes
+news => server 0: connected; server 0: failed: it closed the connection, 1 in a row; server 0: failed: it closed the connection, 2 in a row; server 0: back
+errors 0 => 3
 
 A client quits behind replies that it takes slowly: it gets them all, and then the connection is closed.
 host 127.0.0.1:5001
@@ -1136,10 +1178,10 @@ fn config_after(alloc: Global, first: &str, text: &str) -> Result<(Config, Serve
 }
 
 // Those of these servers that hosts are known of are looked up.
-fn resolve_all(rt: &HostRuntime, wire: &mut Memory, servers: &Servers) {
+fn resolve_all<W: Wire>(rt: &HostRuntime, wire: &mut W, servers: &Servers) {
     for at in 0..servers.len() {
         if let Some(text) = text_at(servers, at) {
-            let _ = wire.resolve(rt, text.as_bytes(), text.as_bytes());
+            let _ = wire.resolve(rt, text.as_bytes());
         }
     }
 }
@@ -1153,39 +1195,36 @@ fn resolve_more(rt: &HostRuntime, proxy: &mut ProxyEnd<Memory>, servers: &Server
     }
 }
 
-fn end_over(
+fn end_over<W: Wire + Drop>(
     rt: &HostRuntime,
-    wire: Memory,
+    wire: W,
     accepted: Accepted,
+    begun: Beginnings,
     servers: &Servers,
     settings: Settings,
-) -> Result<ProxyEnd<Memory>, Fail> {
-    Ok(ProxyEnd::new(
-        rt.alloc(),
-        wire,
-        accepted,
-        Beginnings::any(),
-        servers,
-        settings,
-    )?)
+) -> Result<ProxyEnd<W>, Fail> {
+    Ok(ProxyEnd::new(rt.alloc(), wire, accepted, begun, servers, settings)?)
 }
 
-/// The end that begins by a configuration, whose servers were looked up. The name of one of them may lead elsewhere since.
-pub fn begin(
-    rt: &HostRuntime,
-    wire: Memory,
-    text: &str,
-    moved: Option<&str>,
-    settings: Settings,
-) -> Result<ProxyEnd<Memory>, Fail> {
+/// The wire, on which the servers of a configuration were looked up.
+pub fn looked_up<W: Wire + Drop>(rt: &HostRuntime, wire: W, text: &str) -> Result<W, Fail> {
     let mut wire = wire;
     let servers = servers_of(rt.alloc(), text)?;
     resolve_all(rt, &mut wire, &servers);
-    if let Some(name) = moved {
-        wire.moves(name.as_bytes());
-    }
+    Ok(wire)
+}
+
+/// The end over such a wire that begins by the configuration, where servers began so.
+pub fn begin<W: Wire + Drop>(
+    rt: &HostRuntime,
+    wire: W,
+    text: &str,
+    begun: Beginnings,
+    settings: Settings,
+) -> Result<ProxyEnd<W>, Fail> {
+    let servers = servers_of(rt.alloc(), text)?;
     let accepted = judged(rt.alloc(), read_config(rt.alloc(), text)?)?;
-    end_over(rt, wire, accepted, &servers, settings)
+    end_over(rt, wire, accepted, begun, &servers, settings)
 }
 
 // The number of the generation that a configuration is.
@@ -1195,7 +1234,8 @@ fn load(
     config: Config,
     servers: &Servers,
 ) -> Result<String, Fail> {
-    match proxy.load(config, servers) {
+    let usual = proxy.usual_limits();
+    match proxy.load(config, servers, usual, &Value::Null) {
         Ok(number) => Ok(number.to_string(alloc)?),
         Err(_) => Ok("refused".to_string(alloc)?),
     }
@@ -1203,8 +1243,9 @@ fn load(
 
 impl Scripted<'_> {
     fn begin(&mut self, text: &str, settings: Settings) -> Result<(), Fail> {
-        let wire = self.peers.take()?;
-        self.proxy = Some(begin(self.rt, wire, text, None, settings)?);
+        let wire = looked_up(self.rt, self.peers.take()?, text)?;
+        let proxy = begin(self.rt, wire, text, Beginnings::any(), settings)?;
+        self.proxy = Some(proxy);
         self.config = text.to_string(self.rt.alloc())?;
         Ok(())
     }
@@ -1314,6 +1355,15 @@ impl Scripted<'_> {
         Ok(format!(in self.rt.alloc(); "{count}")?)
     }
 
+    // How many calls of the server of this number were answered by an error.
+    fn errors(&mut self, text: &str) -> Result<String, Fail> {
+        let count = match self.proxy()?.link(text.parse::<usize>()?) {
+            Some(link) => link.calls.errors(),
+            None => 0,
+        };
+        Ok(format!(in self.rt.alloc(); "{count}")?)
+    }
+
     fn times(&mut self) -> Result<String, Fail> {
         let times = self.proxy()?.command_times();
         let mut text = format!(in self.rt.alloc(); "{} in {}:", times.answered, times.micros)?;
@@ -1361,6 +1411,7 @@ impl Stage for Scripted<'_> {
             "times" => self.times(),
             "gone" => self.gone(),
             "unsent" => self.unsent(text),
+            "errors" => self.errors(text),
             _ => {
                 self.set(verb, text)?;
                 Ok(String::new(alloc))

@@ -384,10 +384,7 @@ impl Ends<'_> {
                 self.place(verb, text)?;
                 Ok("")
             }
-            "resolve" => {
-                let name = text.as_bytes();
-                Ok(yes_or_no(self.wire.resolve(self.rt, name, name).is_ok()))
-            }
+            "resolve" => { Ok(yes_or_no(self.wire.resolve(self.rt, text.as_bytes()).is_ok())) }
             "read" => self.read(text.parse::<usize>()?),
             "send" => self.send(text.parse::<usize>()?),
             "write" => self.write(text),

@@ -1,7 +1,8 @@
-//! The loop of `mcgate serve` over a wire in memory: turns, between which its file gets new texts, and a history that remembers them.
+//! The loop of `mcgate serve` over a wire, and examples of it over one in memory: turns, between which its file gets new texts, and a history
+//! that remembers them.
 
 use crate::wires::peers::Peers;
-use crate::wires::proxies::{begin as begin_end, servers_of, settings};
+use crate::wires::proxies::{begin as begin_end, looked_up, servers_of, settings};
 use crate::wires::scripts::bytes_of;
 use examples_tables::configs::with_configs;
 use examples_tables::playing::{Stage, cut, first_line, play_lines, shown, yes_or_no};
@@ -9,6 +10,7 @@ use mcgate_args::details::Details;
 use mcgate_args::log_arguments::{Level, Log};
 use mcgate_args::serve_arguments::ServeJob;
 use mcgate_serve::lines::Lines;
+use mcgate_serve::listens::Listens;
 use mcgate_serve::seen::Seen;
 use mcgate_serve::serving::Serving;
 use mcgate_serve::started::{Begun, Started};
@@ -17,9 +19,9 @@ use route_json::addresses::Servers;
 use serve_proxy::{Beginning, Beginnings, ProxyEnd, ServerDialect, Settings};
 use serve_wire::memory::Memory;
 use serve_wire::{Lead, Wire};
-use std::fs;
 use std::io::ErrorKind;
 use std::test::Fail;
+use std::{fs, io};
 
 // The files of an example, in the folder in which the tests run.
 const FILE: &str = "served.json";
@@ -73,6 +75,36 @@ serve 70
 taken 8 => get a\r\ndelete b\r\ndelete c\r\ndelete d\r\n
 taken 9 => delete d\r\n
 taken 1 => END\r\nNOT_FOUND\r\nNOT_FOUND\r\nNOT_FOUND\r\n
+
+A text lists a new server before the old one: the calls of each key go to its own server, deletes among them.
+host 127.0.0.1:5001
+host 127.0.0.1:5002
+peer 8
+awaits 7
+sends END\r\n
+awaits 17
+sends DELETED\r\n
+answers 127.0.0.1:5001
+peer 9
+awaits 10
+sends NOT_FOUND\r\n
+awaits 17
+sends END\r\n
+answers 127.0.0.1:5002
+peer 1
+sends get a\r\n
+until 60000
+sends delete b\r\ndelete a\r\nget b\r\n
+calls 0
+new empty
+file <one server>
+serve 50
+taken 1 => END\r\n
+file {"pools":{"B":{"servers":["127.0.0.1:5002"]},"A":{"servers":["127.0.0.1:5001"]}},"route":{"type":"PrefixSelectorRoute","policies":{"b":"PoolRoute|B"},"wildcard":"PoolRoute|A"}}
+serve 50
+taken 8 => get a\r\ndelete a\r\n
+taken 9 => delete b\r\nget b\r\n
+taken 1 => END\r\nNOT_FOUND\r\nDELETED\r\nEND\r\n
 
 Servers of two dialects, and a write that fails half-way: by the new text its get goes to the other server, as that one is asked.
 host 127.0.0.1:5001
@@ -146,6 +178,36 @@ file <one server>
 serve 100
 took 9 get a\r\n«6 set k# 0 0 100000\r\n<data>\r\n» => yes
 took 1 END\r\n«6 STORED\r\n» => yes
+
+A client sends 3 MB of stores at once, asks for all of them behind that, and quits. A text is loaded meanwhile: it gets all, and is closed.
+host 127.0.0.1:5001
+peer 9
+piece 99991
+awaits 7
+sends END\r\n
+-- 7, nine times 19 + 100,000 + 2, and 21 times 20 + 100,000 + 2
+awaits 3000658
+sends «30 STORED\r\n»
+-- nine times 8 and 21 times 9 more
+awaits 3000919
+sends «30 VALUE k# 0 100000\r\n<data>\r\nEND\r\n»
+answers 127.0.0.1:5001
+peer 1
+piece 70001
+window 50000
+sends get a\r\n
+awaits 5
+sends «30 set k# 0 0 100000\r\n<data>\r\n»«30 get k#\r\n»quit\r\n
+calls 0
+file <one server>
+-- At most 40 times 50,000 bytes came by then.
+serve 40
+open 1 => yes
+file <A, both cleared>
+serve 400
+took 9 get a\r\n«30 set k# 0 0 100000\r\n<data>\r\n»«30 get k#\r\n» => yes
+took 1 END\r\n«30 STORED\r\n»«30 VALUE k# 0 100000\r\n<data>\r\nEND\r\n» => yes
+open 1 => no
 
 Each text that is loaded stands in the history before it is used, and one that is refused doesn't.
 host 127.0.0.1:5001
@@ -294,72 +356,26 @@ fn settings_of(dialect: ServerDialect, new: New) -> Settings {
     settings
 }
 
-// The file is read again after each turn.
-fn job_of(
-    dialect: ServerDialect,
-    new: New,
-    history: Option<&'static str>,
-    turns: u32,
-) -> ServeJob<'static> {
-    ServeJob {
-        file: FILE,
-        listen: "memory",
-        unix_mode: 0o600,
-        tcp_backlog: 1_024,
-        reuse_port: false,
-        metrics: None,
-        control: None,
-        log: Some(LOG),
-        drain_ms: 1_000,
-        drain_on_eof: false,
-        settings: settings_of(dialect, new),
-        keepalive_s: 60,
-        resolve_s: 60,
-        begun: begun_of(new),
-        any: false,
-        fleet: false,
-        certificate: None,
-        history,
-        check: false,
-        stall_ms: 10_000,
-        memory: 1_073_741_824,
-        reload_every: Some(1),
-        reload_ms: Some(1_000),
-        turns: Some(turns),
-    }
-}
-
-// No such file is left of a run before.
-fn remove(rt: &HostRuntime, file: &str) -> Result<(), Fail> {
+/// No such file is left of a run before.
+pub fn remove(rt: &HostRuntime, file: &str) -> Result<(), Fail> {
     match fs::remove_file(rt, file) {
         Err(error) if error.kind() != ErrorKind::NotFound => Err(error)?,
         _ => Ok(()),
     }
 }
 
-// The loop of an example, and what it stands on.
+/// The program's loop, and how it is told to run.
 #[derive(Drop)]
-struct Served<'a> {
+pub struct Served<'a, W: Wire> {
     rt: &'a HostRuntime,
-    peers: Peers,
-    serving: Option<Serving<Memory>>,
+    // What has its texts.
+    file: &'static str,
+    // For how long a turn waits in which nothing comes, in milliseconds.
+    reload_ms: u32,
+    serving: Option<Serving<W>>,
     dialect: ServerDialect,
     new: New,
-    // A host whose name leads elsewhere once it has begun.
-    moved: Option<String>,
     history: Option<&'static str>,
-}
-
-fn make_served(rt: &HostRuntime) -> Served<'_> {
-    Served {
-        rt,
-        peers: Peers::new(rt.alloc()),
-        serving: None,
-        dialect: ServerDialect::Classic,
-        new: New::Any,
-        moved: None,
-        history: None,
-    }
 }
 
 // The text begins to be served, after the history that is kept.
@@ -373,73 +389,189 @@ fn started_of(rt: &HostRuntime, job: &ServeJob<'_>, text: String) -> Result<Star
     }
 }
 
-fn serving_of(
+fn serving_of<W: Wire + Drop>(
     rt: &HostRuntime,
-    end: ProxyEnd<Memory>,
+    end: ProxyEnd<W>,
     servers: Servers,
     started: Started,
-) -> Result<Serving<Memory>, Fail> {
+) -> Result<Serving<W>, Fail> {
     let lines = Lines::new(rt.alloc(), Some(LOG));
     let seen = Seen::new(rt.alloc());
     Ok(Serving::new(rt, end, servers, None, started, lines, seen, None, None)?)
 }
 
-fn serve_text(
+fn serve_text<W: Wire + Drop>(
     rt: &HostRuntime,
-    end: ProxyEnd<Memory>,
+    end: ProxyEnd<W>,
     job: &ServeJob<'_>,
     text: String,
-) -> Result<Serving<Memory>, Fail> {
+) -> Result<Serving<W>, Fail> {
     let servers = servers_of(rt.alloc(), text.as_str())?;
     let started = started_of(rt, job, text)?;
     serving_of(rt, end, servers, started)
 }
 
-fn begin_serving(
+fn begin_serving<W: Wire + Drop>(
     rt: &HostRuntime,
-    wire: Memory,
-    moved: Option<&str>,
+    wire: W,
     job: &ServeJob<'_>,
-) -> Result<Serving<Memory>, Fail> {
-    let text = fs::read_to_string(rt, FILE)?;
-    let end = begin_end(rt, wire, text.as_str(), moved, job.settings)?;
+    text: String,
+) -> Result<Serving<W>, Fail> {
+    let end = begin_end(rt, wire, text.as_str(), job.begun, job.settings)?;
     serve_text(rt, end, job, text)
 }
 
-fn run(rt: &HostRuntime, serving: &mut Serving<Memory>, job: &ServeJob<'_>) -> Result<(), Fail> {
+fn run<W: Listens>(
+    rt: &HostRuntime,
+    serving: &mut Serving<W>,
+    job: &ServeJob<'_>,
+) -> io::Result<()> {
     match serving.tell_and_run(rt, job) {
         Ok(_) => Ok(()),
-        Err(_) => Err("it broke off")?,
+        Err(_) => Err(io::Error::other("it broke off")),
     }
 }
 
-impl Served<'_> {
-    fn begin_if_new(&mut self, job: &ServeJob<'_>) -> Result<(), Fail> {
-        if self.serving.is_some() {
-            return Ok(());
+impl<'a, W: Listens + Drop> Served<'a, W> {
+    /// One that hasn't begun. The file has its texts, and is read again after each turn; a turn in which nothing comes waits for so many
+    /// milliseconds.
+    pub fn new(rt: &'a HostRuntime, file: &'static str, reload_ms: u32) -> Served<'a, W> {
+        Served {
+            rt,
+            file,
+            reload_ms,
+            serving: None,
+            dialect: ServerDialect::Classic,
+            new: New::Any,
+            history: None,
         }
-        let wire = self.peers.take()?;
-        let moved = match &self.moved {
-            Some(name) => Some(name.as_str()),
-            None => None,
-        };
-        self.serving = Some(begin_serving(self.rt, wire, moved, job)?);
+    }
+
+    // So many turns of it.
+    fn job(&self, turns: u32) -> ServeJob<'static> {
+        ServeJob {
+            file: self.file,
+            listen: "here",
+            unix_mode: 0o600,
+            tcp_backlog: 1_024,
+            reuse_port: false,
+            metrics: None,
+            control: None,
+            log: Some(LOG),
+            drain_ms: 1_000,
+            drain_on_eof: false,
+            settings: settings_of(self.dialect, self.new),
+            keepalive_s: 60,
+            resolve_s: 60,
+            begun: begun_of(self.new),
+            any: false,
+            fleet: false,
+            certificate: None,
+            history: self.history,
+            check: false,
+            stall_ms: 10_000,
+            memory: 1_073_741_824,
+            reload_every: Some(1),
+            reload_ms: Some(self.reload_ms),
+            turns: Some(turns),
+        }
+    }
+
+    /// The text that the file has.
+    pub fn text(&self) -> Result<String, Fail> {
+        Ok(fs::read_to_string(self.rt, self.file)?)
+    }
+
+    /// It begins by this text, on a wire on which its servers were looked up.
+    pub fn begin(&mut self, wire: W, text: String) -> Result<(), Fail> {
+        let job = self.job(0);
+        self.serving = Some(begin_serving(self.rt, wire, &job, text)?);
         Ok(())
     }
 
-    fn serve(&mut self, turns: u32) -> Result<(), Fail> {
+    /// So many turns, if it has begun.
+    pub fn serve(&mut self, turns: u32) -> io::Result<()> {
         let rt = self.rt;
-        let job = job_of(self.dialect, self.new, self.history, turns);
-        self.begin_if_new(&job)?;
+        let job = self.job(turns);
         match &mut self.serving {
             Some(serving) => run(rt, serving, &job),
-            None => Err("nothing is served")?,
+            None => Ok(()),
         }
     }
 
-    fn wire(&self) -> Result<&Memory, Fail> {
+    /// Its wire, if it has begun.
+    pub fn wire(&self) -> Option<&W> {
         match &self.serving {
-            Some(serving) => Ok(serving.end().wire()),
+            Some(serving) => Some(serving.end().wire()),
+            None => None,
+        }
+    }
+
+    /// How it is told to run, and what its file has.
+    pub fn set(&mut self, verb: &str, text: &str) -> Result<(), Fail> {
+        match verb {
+            "file" => fs::write(self.rt, self.file, text)?,
+            "dialects" => self.dialect = ServerDialect::Auto,
+            "history" => self.history = Some(HISTORY),
+            "new" => self.new = new_of(text),
+            _ => return Err("no such event")?,
+        }
+        Ok(())
+    }
+}
+
+// The loop of an example over a wire in memory that is being scripted until it begins.
+#[derive(Drop)]
+struct ScriptedLoop<'a> {
+    rt: &'a HostRuntime,
+    peers: Peers,
+    served: Served<'a, Memory>,
+    // A host whose name leads elsewhere once it has begun.
+    moved: Option<String>,
+}
+
+fn make_scripted_loop(rt: &HostRuntime) -> ScriptedLoop<'_> {
+    ScriptedLoop {
+        rt,
+        peers: Peers::new(rt.alloc()),
+        served: Served::new(rt, FILE, 1_000),
+        moved: None,
+    }
+}
+
+// The name of this host leads elsewhere from now on, if one is given.
+fn with_moved(wire: Memory, moved: &Option<String>) -> Memory {
+    let mut wire = wire;
+    if let Some(name) = moved {
+        wire.moves(name.as_bytes());
+    }
+    wire
+}
+
+impl ScriptedLoop<'_> {
+    // The wire, on which the servers of the text were looked up.
+    fn take_wire(&mut self, text: &str) -> Result<Memory, Fail> {
+        let wire = looked_up(self.rt, self.peers.take()?, text)?;
+        Ok(with_moved(wire, &self.moved))
+    }
+
+    fn begin_if_new(&mut self) -> Result<(), Fail> {
+        if self.served.wire().is_some() {
+            return Ok(());
+        }
+        let text = self.served.text()?;
+        let wire = self.take_wire(text.as_str())?;
+        self.served.begin(wire, text)
+    }
+
+    fn serve(&mut self, turns: u32) -> Result<(), Fail> {
+        self.begin_if_new()?;
+        Ok(self.served.serve(turns)?)
+    }
+
+    fn wire(&self) -> Result<&Memory, Fail> {
+        match self.served.wire() {
+            Some(wire) => Ok(wire),
             None => Err("nothing is served")?,
         }
     }
@@ -452,8 +584,7 @@ impl Served<'_> {
 
     // Where a name leads, beside the machine that is called.
     fn lead_of(&self, name: &str) -> Result<&'static str, Fail> {
-        let name = name.as_bytes();
-        match self.wire()?.look_again(self.rt, name, name)? {
+        match self.wire()?.look_again(self.rt, name.as_bytes())? {
             Lead::Same => Ok("there"),
             Lead::First => Ok("somewhere"),
             Lead::Other => Ok("elsewhere"),
@@ -471,20 +602,8 @@ impl Served<'_> {
     // Events that give nothing.
     fn set(&mut self, verb: &str, text: &str) -> Result<(), Fail> {
         match verb {
-            "file" => Ok(fs::write(self.rt, FILE, text)?),
             "serve" => self.serve(text.parse::<u32>()?),
-            "dialects" => {
-                self.dialect = ServerDialect::Auto;
-                Ok(())
-            }
-            "history" => {
-                self.history = Some(HISTORY);
-                Ok(())
-            }
-            "new" => {
-                self.new = new_of(text);
-                Ok(())
-            }
+            "file" | "dialects" | "history" | "new" => self.served.set(verb, text),
             "moves" => {
                 self.moved = Some(text.to_string(self.rt.alloc())?);
                 Ok(())
@@ -501,7 +620,7 @@ impl Served<'_> {
     }
 }
 
-impl Stage for Served<'_> {
+impl Stage for ScriptedLoop<'_> {
     fn answer(&mut self, event: &str, _want: &str) -> Result<String, Fail> {
         let alloc = self.rt.alloc();
         let (verb, text) = cut(event);
@@ -526,7 +645,7 @@ impl Stage for Served<'_> {
 fn play(rt: &HostRuntime, example: &str) -> Result<(), Fail> {
     let (name, lines) = first_line(example);
     let lines = with_configs(rt.alloc(), lines)?;
-    play_lines(&mut make_served(rt), name, lines.as_str())
+    play_lines(&mut make_scripted_loop(rt), name, lines.as_str())
 }
 
 #[test]

@@ -153,7 +153,7 @@ fn ask_server(rt: &HostRuntime, wire: &mut Sockets, host: &TcpListener) -> Resul
     let text = format!(in rt.alloc(); "{}", host.local_addr()?)?;
     let early = wire.connect(rt, 4, text.as_bytes());
     holds("no address", early == Connected::NoAddress)?;
-    wire.resolve(rt, text.as_bytes(), text.as_bytes())?;
+    wire.resolve(rt, text.as_bytes())?;
     let number = begun(rt, wire, text.as_str())?;
     let (mut peer, _) = host.accept()?;
     wait_for(wire, false, 4)?;

@@ -210,7 +210,8 @@ fn read_together<W: Write>(
     }
 }
 
-// The same, unless there are more files than are judged together.
+// Reads the configurations of the files, their servers numbered alike, and judges them together, unless there are more files than are judged
+// together, which is printed.
 fn check_together<W: Write>(
     alloc: Global,
     files: &[FleetFile<'_>],

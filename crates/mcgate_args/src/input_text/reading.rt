@@ -58,7 +58,10 @@ pub fn read_input<R: Read + Drop>(alloc: Global, reader: R) -> Result<String, In
     read_input_noting(alloc, reader, &mut failure)
 }
 
-/// As [`read_input`]; where the reader fails, its error is put into `failure`.
+/// All that a reader has left, as text. Where the reader fails, its error is put into `failure`.
+///
+/// [`InputFault::TooLarge`] comes where that is more than [`INPUT_LIMIT`] bytes, and [`InputFault::NotUtf8`] where it is not and is
+/// no UTF-8. The limit is mcgate's own.
 pub fn read_input_noting<R: Read + Drop>(
     alloc: Global,
     reader: R,

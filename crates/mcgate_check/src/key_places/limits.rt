@@ -121,7 +121,7 @@ fn write_line<W: Write>(
 fn limits_at(servers: &Servers, value: &Value, server: ServerId) -> ServerLimits
     ensures { result ≡ limits_at servers.now (view value.now) server }
 {
-    limits_of(value, address_of(servers, server))
+    limits_of(value, address_of(servers, server).as_bytes())
 }
 
 // The line of a server, if it is one of those that are asked.

@@ -13,7 +13,7 @@ ghost use Rattle.serve_links.specs.Calls.{IsReadFor, IsReadNext, IsFirstLate, Is
 ghost use Rattle.mc_types.specs.declared.call.Outcome.TheVariants.{Failed};
 ghost use Rattle.std.specs.List.{Any};
 ghost use Rattle.serve_links.specs.Lateness.{IsLate};
-ghost use Rattle.serve_links.specs.Counting.{with_first, with_next};
+ghost use Rattle.serve_links.specs.Counting.{with_first, with_first_error, with_next};
 
 use crate::calls::late_call::LateCall;
 use crate::calls::sending::send_ask;
@@ -49,7 +49,7 @@ pub struct SentCall {
     pub client: usize,
     /// When it began, in milliseconds: also where it waited before it went out.
     pub since: u64,
-    /// The same by the clock of calls that wait, which doesn't count how long the process stood still.
+    /// When it began by the clock of calls that wait, in milliseconds, which doesn't count how long the process stood still.
     pub paced: u64,
     /// How many bytes its answer is expected to take, where that is much; 0 for all other calls.
     pub bulk: usize,
@@ -208,7 +208,7 @@ fn read_in(
     }
 }
 
-// The same, where memory isn't refused for that.
+// What the bytes say to the ask, as it was asked in this dialect; `None` where memory was refused for reading it.
 #[tactic(auto, using(crate::proofs::CallOrder::read_meta))]
 fn read_for(
     dialect: Dialect,
@@ -227,7 +227,8 @@ fn read_for(
     read_in(dialect, alloc, forms, spares, ask, received).ok()
 }
 
-// What they say to the core's call of this number.
+// What the bytes say to the core's call of this number, as it was asked in this dialect: where none is out, they are foreign. `None` where memory
+// was refused for reading it.
 #[tactic(auto, using(crate::proofs::CallOrder::read_next, crate::proofs::CallOrder::read_nothing))]
 fn read_next(
     dialect: Dialect,
@@ -253,7 +254,7 @@ fn is_late(call: &SentCall, most: u64, now: u64) -> bool
     call.since.saturating_add(most) < now
 }
 
-// The same call as one that is late.
+// The call as one that is late. The only error is that its ask can't be shared once more.
 #[tactic(auto, using(crate::proofs::CallOrder::same_is_ask, crate::proofs::CallOrder::same_late))]
 fn late_of(call: &SentCall) -> Result<LateCall, AllocError>
     ensures { IfOk result (λ late. late ≡ as_late call.now) }
@@ -429,12 +430,18 @@ impl LinkCalls {
         self.times.tally()
     }
 
+    /// How many of those that were answered were answered by an error: `ERROR`, `CLIENT_ERROR` or `SERVER_ERROR`.
+    pub fn errors(&self) -> u64 {
+        self.times.errors()
+    }
+
     // The first call had this outcome: whose it was.
-    #[tactic(auto, using(crate::proofs::CallOrder::popped, crate::proofs::CallOrder::fits_popped, crate::proofs::Counted::counts_first, crate::proofs::Counted::counts_none))]
+    #[tactic(auto, using(crate::proofs::CallOrder::popped, crate::proofs::CallOrder::fits_popped, crate::proofs::Counted::counts_first, crate::proofs::Counted::counts_none, crate::proofs::Counted::error_first, crate::proofs::Counted::error_none))]
     fn settle_first(&mut self, core: &mut ServedCore, outcome: Outcome) -> Option<usize>
         requires { FitsFirst self.old.sent.items core.old.core outcome }
         ensures settles { SettlesFirst self.old.sent.items core.old outcome result self.new.sent.items core.new }
         ensures counts { self.new.times.tally ≡ with_first self.old.sent.items outcome self.old.times }
+        ensures errors { self.new.times.errors ≡ with_first_error self.old.sent.items outcome self.old.times.errors }
     {
         match self.sent.pop_front() {
             None => None,

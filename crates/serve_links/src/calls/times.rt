@@ -2,12 +2,23 @@
 
 ghost use Rattle.std.specs.Prelude.{◌≡◌, ◌<◌, OnOk};
 ghost use Rattle.std.specs.VecDeque.{deque_len, deque_capacity};
-ghost use Rattle.serve_links.specs.Counting.{took, with_call_outcome};
+ghost use Rattle.mc_types.specs.Fits.{is_error};
+ghost use Rattle.serve_links.specs.Counting.{took, with_call_outcome, with_error, with_outcome_error};
 
 use crate::tally::CallTally;
-use mc_types::Outcome;
+use mc_types::{Answer, Outcome};
 use std::alloc::{AllocError, Global};
 use std::collections::VecDeque;
+
+// Whether an answer is an error line.
+fn says_error(answer: &Answer) -> bool
+    ensures { result ≡ is_error answer.now }
+{
+    match answer {
+        Answer::Error | Answer::ClientError(_) | Answer::ServerError(_) => true,
+        _ => false,
+    }
+}
 
 /// Times of the calls of one server, in microseconds.
 #[derive(Drop)]
@@ -17,6 +28,8 @@ pub struct CallTimes {
     // When bytes of the server came last.
     came: u64,
     tally: CallTally,
+    // How many of their answers were errors.
+    errors: u64,
 }
 
 impl CallTimes {
@@ -26,6 +39,7 @@ impl CallTimes {
             went: VecDeque::new(alloc),
             came: 0,
             tally: CallTally::new(),
+            errors: 0,
         }
     }
 
@@ -56,6 +70,7 @@ impl CallTimes {
     fn end_first(&mut self) -> u64
         ensures took { result ≡ took self.old.went.items self.old.came }
         ensures tally { self.new.tally ≡ self.old.tally }
+        ensures errors { self.new.errors ≡ self.old.errors }
     {
         match self.went.pop_front() {
             Some(went) => self.came.saturating_sub(went),
@@ -65,12 +80,25 @@ impl CallTimes {
 
     /// The first of those that are out had this outcome.
     pub fn note_settled(&mut self, outcome: &Outcome)
-        ensures { self.new.tally ≡ with_call_outcome outcome.now self.old }
+        ensures tally { self.new.tally ≡ with_call_outcome outcome.now self.old }
+        ensures errors { self.new.errors ≡ with_outcome_error outcome.now self.old.errors }
     {
         let micros = self.end_first();
         match outcome {
-            Outcome::Answered(_) => self.tally.note_answered(micros),
+            Outcome::Answered(answer) => {
+                self.tally.note_answered(micros);
+                self.note_said(answer)
+            }
             Outcome::Failed => self.tally.note_failed(),
+        }
+    }
+
+    // One was answered this.
+    fn note_said(&mut self, answer: &Answer)
+        ensures { self.new ≡ record self.old { errors = with_error (is_error answer.now) self.old.errors } }
+    {
+        if says_error(answer) {
+            self.errors = self.errors.saturating_add(1);
         }
     }
 
@@ -79,5 +107,12 @@ impl CallTimes {
         ensures { result ≡ self.now.tally }
     {
         self.tally
+    }
+
+    /// How many of their answers were errors.
+    pub fn errors(&self) -> u64
+        ensures { result ≡ self.now.errors }
+    {
+        self.errors
     }
 }

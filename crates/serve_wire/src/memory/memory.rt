@@ -461,7 +461,7 @@ impl Wire for Memory {
         self.callers.clear();
     }
 
-    fn resolve<N: Net>(&mut self, _net: &N, text: &[u8], _address: &[u8]) -> io::Result<()> {
+    fn resolve<N: Net>(&mut self, _net: &N, text: &[u8]) -> io::Result<()> {
         self.log.note(&[LOOKS_UP, 0, 0], text);
         match host_at(&mut self.hosts, text) {
             Some(host) => {
@@ -473,7 +473,7 @@ impl Wire for Memory {
         }
     }
 
-    fn look_again<N: Net>(&self, _net: &N, text: &[u8], _address: &[u8]) -> io::Result<Lead> {
+    fn look_again<N: Net>(&self, _net: &N, text: &[u8]) -> io::Result<Lead> {
         for host in self.hosts.as_slice() {
             if host.text.as_slice() == text {
                 return Ok(lead_to(host));

@@ -13,6 +13,7 @@ use mio::event::Event;
 use mio::net::{TcpListener, TcpStream, UnixStream};
 use mio::unix::SourceFd;
 use mio::{Events, Interest, Poll, Token};
+use route_json::addresses::address_in;
 use slab::Slab;
 use std::alloc::{AllocError, Global};
 use std::io;
@@ -227,10 +228,10 @@ fn put_address(
     Ok(addresses.push(Address { text, place })?)
 }
 
-// The text of an address.
-fn text_of(address: &[u8]) -> io::Result<&str> {
-    match std::str::from_utf8(address) {
-        Ok(text) => Ok(text),
+// The address in a server's name.
+fn address_of(name: &[u8]) -> io::Result<&str> {
+    match std::str::from_utf8(name) {
+        Ok(name) => Ok(address_in(name)),
         Err(_) => Err(io::Error::from(ErrorKind::InvalidInput)),
     }
 }
@@ -245,9 +246,9 @@ fn path_in(address: &str) -> Option<&str> {
     }
 }
 
-// The first place that an address names.
-fn look_up<N: Net>(alloc: Global, net: &N, address: &[u8]) -> io::Result<Place> {
-    let address = text_of(address)?;
+// The first place to which the address in a server's name leads.
+fn look_up<N: Net>(alloc: Global, net: &N, name: &[u8]) -> io::Result<Place> {
+    let address = address_of(name)?;
     if let Some(path) = path_in(address) {
         return Ok(Place::Path(String::from_str(alloc, path)?));
     }
@@ -433,17 +434,17 @@ impl Wire for Sockets {
         self.listeners.clear();
     }
 
-    fn resolve<N: Net>(&mut self, net: &N, text: &[u8], address: &[u8]) -> io::Result<()> {
+    fn resolve<N: Net>(&mut self, net: &N, text: &[u8]) -> io::Result<()> {
         self.log.note(&[LOOKS_UP, 0, 0], text);
-        let place = look_up(self.alloc, net, address)?;
+        let place = look_up(self.alloc, net, text)?;
         Ok(put_address(self.alloc, &mut self.addresses, text, place)?)
     }
 
-    fn look_again<N: Net>(&self, net: &N, text: &[u8], address: &[u8]) -> io::Result<Lead> {
+    fn look_again<N: Net>(&self, net: &N, text: &[u8]) -> io::Result<Lead> {
         match address_at(&self.addresses, text) {
-            Some(known) => lead_of(net, text_of(address)?, &known.place),
+            Some(known) => lead_of(net, address_of(text)?, &known.place),
             None => {
-                let _ = look_up(self.alloc, net, address)?;
+                let _ = look_up(self.alloc, net, text)?;
                 Ok(Lead::First)
             }
         }

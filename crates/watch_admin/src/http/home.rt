@@ -15,8 +15,14 @@ table { border-collapse: collapse; width: 100% } th, td { text-align: right; pad
 th { color: #666; font-weight: normal } th:first-child, td:first-child { text-align: left } td { font-variant-numeric: tabular-nums }
 .up { color: #17722f } .late, .warn { color: #9a6200; font-weight: bold } .down, .unknown { color: #b3261e; font-weight: bold } .unused { color: #777 }
 #told p { margin: .2em 0; padding: .3em .7em; border-left: 4px solid #b3261e; background: #fbeceb }
-ul { margin: 0; padding-left: 1.3em; border-left: 1px solid #ddd; list-style: none } #tree > ul { border: 0; padding: 0 } li { padding: .1em 0 }
-li b { font-weight: 600 } li i { color: #666; font-style: normal }
+#tree { overflow-x: auto } .node, .way { display: flex; align-items: center } .ways { position: relative; margin-left: 1.5em }
+.box { border: 1px solid #aaa; border-radius: 4px; padding: .15em .6em; white-space: nowrap } .box b { font-weight: 600 }
+.way { position: relative; padding: .2em 0 .2em 1.2em } .way i { color: #666; font-style: normal; padding: 0 .5em; background: #fff; z-index: 1; white-space: nowrap }
+.ways::before { content: ""; position: absolute; left: -1.5em; width: 1.5em; top: 50%; border-top: 1px solid #aaa }
+.way::before { content: ""; position: absolute; left: 0; top: 0; bottom: 0; border-left: 1px solid #aaa }
+.way:first-child::before { top: 50% } .way:last-child::before { bottom: 50% }
+.way::after { content: ""; position: absolute; left: 0; width: 1.7em; top: 50%; border-top: 1px solid #aaa }
+.way i::after { content: ""; display: inline-block; vertical-align: middle; width: 1em; margin: 0 -.5em 0 .5em; border-top: 1px solid #aaa }
 </style>
 </head>
 <body>
@@ -28,12 +34,12 @@ li b { font-weight: 600 } li i { color: #666; font-style: normal }
 <table id="commands"></table>
 <h2>Clients and configurations</h2>
 <table id="others"></table>
-<h2>Tree <small id="sum"></small></h2>
+<h2>Tree <small><span id="sum"></span>, <a href="config.json">its text</a></small></h2>
 <div id="tree"></div>
 <script>
 "use strict";
-const EVERY = 2000;
-let before = null, drawn = null;
+const EVERY = 2000, MOST = 16, WORST = ["unknown", "down", "late", "unused", "up"];
+let before = null, drawn = null, leaves = [];
 const at = id => document.getElementById(id);
 
 function made(kind, text, style) {
@@ -99,7 +105,8 @@ function serverRow(now, then, seconds, server) {
   const how = state(now, server);
   const grown = outcome => rate(sum(now.mcgate_server_calls_total, {server, outcome}), sum(then.mcgate_server_calls_total, {server, outcome}), seconds);
   const failed = grown("failed") + grown("unsent");
-  return [server, [how, how], number(grown("answered")), [number(failed), failed ? "down" : ""], ...answers(spans(now, then, "mcgate_server_call_seconds", {server})),
+  const wrong = rate(sum(now.mcgate_server_error_answers_total, {server}), sum(then.mcgate_server_error_answers_total, {server}), seconds);
+  return [server, [how, how], number(grown("answered")), [number(wrong), wrong ? "warn" : ""], [number(failed), failed ? "down" : ""], ...answers(spans(now, then, "mcgate_server_call_seconds", {server})),
     number(sum(now.mcgate_server_calls_out, {server})), causes(now.mcgate_server_failures_total, {server})];
 }
 
@@ -122,18 +129,22 @@ function tell(now) {
   const many = sum(now.mcgate_client_connections_total, {verdict: "refused"});
   if (unknown.length) told.push("Names that lead to no machine: " + unknown.join(", ") + ". Calls to these servers fail at once.");
   if (many) told.push("Clients refused, as there were too many: " + number(many) + ".");
+  const bad = now.mcgate_bad_messages_total;
+  if (bad) told.push("Messages that were no valid commands: " + number(bad) + ".");
   const slow = ["stalled", "most_held"].reduce((all, cause) => all + sum(now.mcgate_clients_closed_total, {cause}), 0);
   if (slow) told.push("Clients closed, as they took too little: " + number(slow) + ".");
+  const unaccepted = now.mcgate_accept_failures_total;
+  if (unaccepted) told.push("Connections could not be accepted, " + number(unaccepted) + " times: too many descriptors were open, or no memory was left.");
   at("told").replaceChildren(...told.map(text => made("p", text)));
 }
 
 function show(now, then, seconds) {
-  const version = now.mcgate_build_info[0].version;
-  at("about").textContent = "version " + version + ", up " + number(now.mcgate_uptime_seconds) + " s, "
+  const built = now.mcgate_build_info[0];
+  at("about").textContent = "version " + built.version + (built.proved === "true" ? ", proved" : ", not proved") + ", up " + number(now.mcgate_uptime_seconds) + " s, "
     + bytes(now.mcgate_resident_memory_bytes) + " in use, " + Math.round(100 * rate(now.mcgate_cpu_seconds_total, then.mcgate_cpu_seconds_total || 0, seconds)) + " % of a processor";
   at("sum").textContent = "SHA-256 " + now.mcgate_config_info[0].sha256;
   tell(now);
-  fill("servers", ["server", "state", "answers/s", "failed/s", "half took", "99 % took", "calls out", "failures so far"],
+  fill("servers", ["server", "state", "answers/s", "errors/s", "failed/s", "half took", "99 % took", "calls out", "failures so far"],
     now.mcgate_server_up.map(row => serverRow(now, then, seconds, row.server)));
   const ops = [...new Set(now.mcgate_commands_total.map(row => row.op))].filter(op => sum(now.mcgate_commands_total, {op}));
   fill("commands", ["command", "per second", "with an item", "acknowledged", "errors", "others", "so far"], ops.map(op => commandRow(now, then, seconds, op)));
@@ -146,26 +157,73 @@ function show(now, then, seconds) {
     came("refused"), causes(now.mcgate_clients_closed_total, {}), bytes(moved("in")) + "/s", bytes(moved("out")) + "/s", number(now.mcgate_generation), loads("accepted"), loads("unchanged"), loads("refused")]]);
 }
 
-// A part of the configuration as a list: what it is called, and what stands in it.
-function branch(name, part) {
-  const line = made("li");
-  if (typeof part !== "object" || part === null) {
-    line.append(made("i", name ? name + ": " : ""), made("b", String(part)));
+// Servers as lines of a box, which are marked with each look; of many the first ones, and the others in one line.
+function lines(texts) {
+  const parts = texts.slice(0, MOST).map(text => [text]);
+  if (texts.length > MOST) parts.push(texts.slice(MOST));
+  return parts.map(part => {
+    const line = made("div", part.length === 1 ? part[0] + " " : number(part.length) + " more "), how = made("span");
+    line.append(how);
+    leaves.push({texts: part, how});
     return line;
+  });
+}
+
+// A box of the picture: its name, its servers, and the ways on from it, each a word and a box.
+function box(name, texts, ways) {
+  const node = made("div", undefined, "node"), itself = made("div", undefined, "box"), on = made("div", undefined, "ways");
+  itself.append(made("b", name), ...lines(texts));
+  node.append(itself);
+  ways.forEach(([word, next]) => {
+    const way = made("div", undefined, "way");
+    way.append(made("i", word), next);
+    on.append(way);
+  });
+  if (ways.length) node.append(on);
+  return node;
+}
+
+// A text before its first bar, and after it.
+function cut(text) {
+  const bar = text.indexOf("|");
+  return bar < 0 ? [text, undefined] : [text.slice(0, bar), text.slice(bar + 1)];
+}
+
+function route(part, pools) {
+  if (typeof part === "string") {
+    const [type, rest] = cut(part);
+    part = type === "PoolRoute" ? {type, pool: rest} : {type, children: rest};
   }
-  const inner = made("ul"), kind = Array.isArray(part) ? undefined : part.type;
-  line.append(made("i", name ? name + (kind ? ": " : "") : ""), made("b", kind || ""), inner);
-  Object.keys(part).filter(key => key !== "type").forEach(key => inner.append(branch(Array.isArray(part) ? "" : key, part[key])));
-  return line;
+  if (part.type === "PoolRoute") return box("PoolRoute " + part.pool, pools[part.pool].servers, []);
+  if (typeof part.children === "string") {
+    const name = cut(part.children)[1];
+    return box(part.type, [], [["each", box("server of " + name, pools[name].servers, [])]]);
+  }
+  const ways = (part.children || []).map((next, place) => [String(place + 1), next]);
+  if (part.type === "WarmUpRoute") ways.push(["cold", part.cold], ["warm", part.warm]);
+  Object.entries(part.operation_policies || {}).forEach(way => ways.push(way));
+  if (part.type === "OperationSelectorRoute") ways.push(["default", part.default_policy || "ErrorRoute"]);
+  Object.entries(part.policies || {}).forEach(([prefix, next]) => ways.push(["prefix " + prefix, next]));
+  if (part.type === "PrefixSelectorRoute") ways.push(["wildcard", part.wildcard || "ErrorRoute"]);
+  return box(part.type, [], ways.map(([word, next]) => [word, route(next, pools)]));
 }
 
 async function draw(generation) {
   if (generation === drawn) return;
   const config = await (await fetch("config.json")).json();
-  const list = made("ul");
-  Object.keys(config).forEach(key => list.append(branch(key, config[key])));
-  at("tree").replaceChildren(list);
+  leaves = [];
+  at("tree").replaceChildren(route(config.route, config.pools));
   drawn = generation;
+}
+
+// Tells the states of the servers in the picture, by their names. (a text may have a weight behind its name)
+function mark(states) {
+  leaves.forEach(({texts, how}) => {
+    const all = texts.map(text => states.get(text) || states.get(text.replace(/:[0-9]+$/, "")) || "");
+    const found = WORST.filter(word => all.includes(word));
+    how.textContent = texts.length === 1 ? all[0] : found.map(word => number(all.filter(one => one === word).length) + " " + word).join(", ");
+    how.className = found[0] || "";
+  });
 }
 
 async function look() {
@@ -175,6 +233,7 @@ async function look() {
     show(now, before || {}, seconds);
     before = now;
     await draw(now.mcgate_generation);
+    mark(new Map(now.mcgate_server_up.map(row => [row.server, state(now, row.server)])));
   } catch (fault) {
     at("about").textContent = "it doesn't answer: " + fault.message;
   }

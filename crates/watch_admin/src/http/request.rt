@@ -16,7 +16,7 @@ pub enum Page {
     Config,
     /// `/metrics`: the numbers in Prometheus' text format.
     Metrics,
-    /// `/stats.json`: the same in JSON.
+    /// `/stats.json`: the numbers in JSON.
     Stats,
 }
 

@@ -98,7 +98,7 @@ fn answer(
     send(stream, answering)
 }
 
-// The same of what stands anywhere.
+// If it waits for a page, it is answered by this body of that; else it stays where it stands. Where it stands then, if it stays.
 fn answer_if_waiting(
     alloc: Global,
     stream: &TcpStream,

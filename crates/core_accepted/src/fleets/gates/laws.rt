@@ -10,7 +10,9 @@ pub fn fleet_trees_are_fresh()
     ensures { FleetTreesAreFresh }
 {}
 
-/// So it is with the trees that [`crate::fleets::gates::judging::judge_fleet`] accepts, whichever of them each command runs by.
+/// Where each command of a fleet runs by any of the trees that [`crate::fleets::gates::judging::judge_fleet`] accepts, every run of
+/// it over connections in order is fresh, but for stores that had failed over another connection than the delete's; with the
+/// premise that a call that failed was applied before or is never, it is fresh with regard to all stores.
 pub fn accepted_fleet_is_fresh()
     ensures { AcceptedFleetIsFresh }
 {}

@@ -22,7 +22,9 @@ pub fn one_proxy_is_fresh<W: HasLate>()
     ensures { OneProxyIsFresh W.words W.bars }
 {}
 
-/// The same where all commands on a key send over the same connections, as where each key has its proxy.
+/// Where deletes clear what later commands take, what copies bars deletes of its key, only these commands write the
+/// servers, all commands on a key send over the same connections, as where each key has its proxy, and servers apply what
+/// was sent over a connection in order: every run is fresh, whenever servers apply what was given up.
 pub fn sticky_is_fresh<W: HasLate>()
     ensures { StickyIsFresh W.words W.bars }
 {}

@@ -7,6 +7,12 @@ use Rattle.watch_admin.proofs.numbers.families_of.Goals as goal
 pub returns-clause-clients : goal.returns-clause-clients
 returns-clause-clients c =
     stays_among _ _ _ c.in_ok-add_clients.ensures.told
+    (more_then _ _ _ c.in_ok-add_bad_messages.ensures.adds
+    (more_then _ _ _ c.in_ok-add_commands.ensures.adds (more_then _ _ _ c.in_ok-add_command_times.ensures (more_then _ _ _ c.in_ok-add_all_calls.ensures.adds c.in_ok-add_rest.ensures))))
+
+pub returns-clause-messages : goal.returns-clause-messages
+returns-clause-messages c =
+    stays_among _ _ _ c.in_ok-add_bad_messages.ensures.told
     (more_then _ _ _ c.in_ok-add_commands.ensures.adds (more_then _ _ _ c.in_ok-add_command_times.ensures (more_then _ _ _ c.in_ok-add_all_calls.ensures.adds c.in_ok-add_rest.ensures)))
 
 pub returns-clause-commands : goal.returns-clause-commands

@@ -4,6 +4,9 @@ use Rattle.watch_admin.proofs.numbers.families_with_lines.Goals as goal
 pub returns-clause-clients : goal.returns-clause-clients
 returns-clause-clients c = stays_among _ _ _ c.in_ok-families.ensures.clients (one_more _ _ _ c.in_ok-push.ensures.items)
 
+pub returns-clause-messages : goal.returns-clause-messages
+returns-clause-messages c = stays_among _ _ _ c.in_ok-families.ensures.messages (one_more _ _ _ c.in_ok-push.ensures.items)
+
 pub returns-clause-commands : goal.returns-clause-commands
 returns-clause-commands c = stays_among _ _ _ c.in_ok-families.ensures.commands (one_more _ _ _ c.in_ok-push.ensures.items)
 

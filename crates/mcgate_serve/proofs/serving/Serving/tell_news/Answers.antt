@@ -5,6 +5,6 @@ use Rattle.mcgate_serve.proofs.serving.Serving.tell_news.Goals as goal
 
 pub returns : goal.returns
 returns g c = record {
-  core = same_box c.tell_stalled.new.self.end c.tell_refused.new.self.end c.tell_refused.ensures ∙ c.tell_stalled.ensures.core ∙ c.tell_links.ensures.core;
-  ends = stayed g.W.Wire.history c.args.self.now.end c.tell_stalled.new.self.end c.tell_refused.new.self.end c.tell_refused.ensures (stay_then c.tell_links.ensures.ends c.tell_stalled.ensures.ends);
+  core = same_box c.tell_stalled.new.self.end c.tell_untaken.new.self.end c.tell_untaken.ensures ∙ c.tell_stalled.ensures.core ∙ c.tell_links.ensures.core;
+  ends = stayed g.W.Wire.history c.args.self.now.end c.tell_stalled.new.self.end c.tell_untaken.new.self.end c.tell_untaken.ensures (stay_then c.tell_links.ensures.ends c.tell_stalled.ensures.ends);
 }

@@ -1,11 +1,19 @@
-use Rattle.serve_proxy.proofs.Growing.{grow_from, then_grows, links_grow, load_grows, same_grows}
+use Rattle.std.proofs.Common.{refl, ◌∙◌}
+use Rattle.serde_json.specs.View.{view}
+use Rattle.serve_proxy.specs.Limiting.{value_limits}
+use Rattle.serve_proxy.proofs.Growing.{gone_back, all_load, load_kept, load_from, texts_limited_by}
 use Rattle.serve_proxy.proofs.proxy.ProxyEnd.load.Goals as goal
 
-pub returns-in_err-generation-clause-ends : goal.returns-in_err-generation-clause-ends
-returns-in_err-generation-clause-ends g c = grow_from c.deref_mut.ensures.value (same_grows _ _ c.in_err-generation.ensures.refused.1)
+pub returns-in_err-bring-clause-ends : goal.returns-in_err-bring-clause-ends
+returns-in_err-bring-clause-ends g c = load_kept c.args.self.now.sockets c.bring.new.self refl c.in_err-bring.ensures.kept
 
-pub returns-then-is_err-clause-ends : goal.returns-then-is_err-clause-ends
-returns-then-is_err-clause-ends g c = grow_from c.deref_mut.ensures.value (then_grows (load_grows c.args.config c.in_ok-generation.generation _ _ c.in_ok-generation.ensures.loaded) (links_grow _ c.add.ensures.adds))
+pub returns-in-Ok-clause-ends : goal.returns-in-Ok-clause-ends
+returns-in-Ok-clause-ends g c = load_from c.deref_mut.ensures.value (all_load c.in-Ok.generation c.args.self.now.sockets c.bring.new.self c.limit.new.self c.in-Ok.ensures.loaded c.in_ok-bring.ensures.adds c.in_ok-bring.ensures.texts c.limit.ensures)
 
-pub returns-clause-ends : goal.returns-clause-ends
-returns-clause-ends g c = grow_from c.deref_mut.ensures.value (then_grows (load_grows c.args.config c.in_ok-generation.generation _ _ c.in_ok-generation.ensures.loaded) (links_grow _ c.add.ensures.adds))
+pub returns-in-Ok-clause-texts : goal.returns-in-Ok-clause-texts
+returns-in-Ok-clause-texts g c = texts_limited_by (value_limits c.args.usual (view c.args.said.now)) c.bring.new.self.all.items c.limit.new.self.all.items c.limit.ensures ∙ c.in_ok-bring.ensures.texts
+
+pub returns-in-Err-clause-ends : goal.returns-in-Err-clause-ends
+returns-in-Err-clause-ends g c =
+    let old = c.args.self.now.sockets.links.all.items in
+    load_from c.deref_mut.ensures.value (load_kept c.args.self.now.sockets c.go_back.new.self c.in-Err.ensures.refused.1 (gone_back old c.bring.new.self.all.items c.go_back.new.self.all.items c.len-before.result c.in_ok-bring.ensures.adds (c.len-before.ensures ∙ c.args.self.now.sockets.links.all.ok.0) c.go_back.ensures))
