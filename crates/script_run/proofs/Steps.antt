@@ -365,8 +365,8 @@ same_loss (Restart server) = refl
 
 -- something is lost
 pub lost :
-    LossesGoOn → (a : Runner) (s t : ScriptServers) (loss : Loss) → caches_of t ≡ after_loss (losing.loss_of loss) (caches_of s)
-    → ((i : ℕ) (key : List ℕ) → cache_held (caches_of t) i key ≡ after_event (losing.loss_of loss) (cache_held (caches_of s)) i key) → t ≡ record s { caches = t.caches } → Befalls (Now (loss_of loss)) a s a t
+    LossesGoOn → (a : Runner) (s t : ScriptServers) (loss : Loss) → caches_of t ≡ after_loss (losing.loss_event loss) (caches_of s)
+    → ((i : ℕ) (key : List ℕ) → cache_held (caches_of t) i key ≡ after_event (losing.loss_event loss) (cache_held (caches_of s)) i key) → t ≡ record s { caches = t.caches } → Befalls (Now (loss_of loss)) a s a t
 lost law a s t loss caches held rest =
     changed (Now (loss_of loss)) (λ c. refl) refl (λ count before after. tt) a s t tt ((loss, refl, caches), rest)
     (λ opening tree log stands.

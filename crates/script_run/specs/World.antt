@@ -49,7 +49,7 @@ EventChanges (Fail turn manner) old new =
     ((t : ℕ) → named_of new t ≡ (if nat_eq (turn_of old + turn) t then Some manner else named_of old t)) × (new ≡ record old { failures = new.failures })
 EventChanges (At turn loss) old new =
     ((t : ℕ) → map loss_of (lost_of new t) ≡ (if nat_eq (turn_of old + turn) t then map loss_of (lost_of old t) ++ loss ∷ [] else map loss_of (lost_of old t))) × (new ≡ record old { losses = new.losses })
-EventChanges (Now loss) old new = ((lost : Loss) × (loss_of lost ≡ loss) × (caches_of new ≡ losing.after_loss (losing.loss_of lost) (caches_of old))) × (new ≡ record old { caches = new.caches })
+EventChanges (Now loss) old new = ((lost : Loss) × (loss_of lost ≡ loss) × (caches_of new ≡ losing.after_loss (losing.loss_event lost) (caches_of old))) × (new ≡ record old { caches = new.caches })
 EventChanges (Moment moment) old new = (moment_now new ≡ moment) × (new ≡ record old { moment = new.moment })
 
 -- what an event adds to the servers' story by itself: what is lost now
