@@ -13,12 +13,12 @@ HasSince since [] = ⊥
 HasSince since (call ∷ calls) = (call.since ≡ since) ⊎ HasSince since calls
 
 -- a store is awaited however long it takes, as the first of the calls that are out, and one of them had waited too long when a call was late last
-abbrev pub IsStalled : Link → Type 0
-IsStalled link = (awaits_store link ≡ true) × HasWaited link.limits.call_ms link.late_since (said_asks link.calls.sent.items)
+abbrev pub IsStoreLate : Link → Type 0
+IsStoreLate link = (awaits_store link ≡ true) × HasWaited link.limits.call_ms link.late_since (said_asks link.calls.sent.items)
 
--- its server is late: answers are still to come of calls that have failed, or it is stalled
+-- its server is late: answers are still to come of calls that have failed, or a store is
 abbrev pub IsServerLate : Link → Type 0
-IsServerLate link = (link.late.items ≢ []) ⊎ IsStalled link
+IsServerLate link = (link.late.items ≢ []) ⊎ IsStoreLate link
 
 -- so many connections failed in a row as are allowed, and either it isn't tried again yet, or a call tries it
 abbrev pub IsLeftAlone : (now : ℕ) → Link → Type 0

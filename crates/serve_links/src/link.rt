@@ -8,7 +8,7 @@ ghost use Rattle.serve_links.specs.Lateness.{HasLate, awaits_store, AwaitsLate, 
 ghost use Rattle.wire_parts.specs.Sending.{bytes_of};
 ghost use Rattle.serve_links.specs.Dialects.{awaits_flush};
 ghost use Rattle.serve_links.specs.Talks.{HasWaited};
-ghost use Rattle.serve_links.specs.Unsent.{IsStalled, IsServerLate, HoldsBack, TakesCalls, WaitsTooLong};
+ghost use Rattle.serve_links.specs.Unsent.{IsStoreLate, IsServerLate, HoldsBack, TakesCalls, WaitsTooLong};
 ghost use Rattle.serve_links.specs.Epochs.{is_retired, with_retired, LinkIsQuiet};
 ghost use Rattle.serve_links.specs.Lines.{dialect_asked, flush_asked, first_asked_of, asks_dialect, awaits_first, first_dialect, greeting_of, KeepsLines, HasNewEnd, OpensLink, Learns, ended_by_read, DrainsOne, DrainsBy};
 ghost use Rattle.serve_links.specs.Story.{said_asks, line_of, LineIsForeign};
@@ -349,7 +349,7 @@ impl Link {
     // Whether a call that is out was late already, and is still awaited, as the first one is a store.
     fn is_stalled(&self) -> bool
         ensures store { result ≡ true → stores_first self.now.calls.sent.items ≡ true }
-        ensures stalled { result ≡ true → IsStalled self.now }
+        ensures stalled { result ≡ true → IsStoreLate self.now }
     {
         self.awaits_store() && self.has_been_late()
     }
