@@ -9,3 +9,4 @@ pub mod Oldest
 pub mod Determined
 pub mod ServedAlike
 pub mod Touching
+pub mod Asking

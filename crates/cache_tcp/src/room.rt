@@ -1,12 +1,13 @@
 //! How much memory items and what is to be sent take, and which items go for it.
 
 ghost use Rattle.std.specs.Prelude.{◌≡◌, ◌+◌, ◌≤◌, ◌⊎◌, false, []};
+ghost use Rattle.mc_types.specs.Asks.{IsAsk};
 ghost use Rattle.cache_tcp.specs.Oldest.{LosesOldest};
 
 use crate::clock::Moment;
 use crate::connection::Cache;
 use lru::LruCache;
-use mc_types::{Answer, Ask, Dialect, Key, Op, Tokens, is_ask};
+use mc_types::{Answer, Ask, Dialect, Key, Op, Tokens};
 use std::alloc::{AllocError, Global};
 use std::num::NonZeroUsize;
 
@@ -33,10 +34,18 @@ fn len_of(answer: &Answer) -> Option<usize> {
 
 fn drop_ask(_ask: Ask) {}
 
-fn asked(cache: &mut Cache, moment: Moment, ask: &Ask) -> Result<Option<usize>, AllocError> {
-    if !is_ask(ask) {
-        return Ok(None);
-    }
+// A classic get of the key. It takes no memory.
+#[tactic(auto, using(crate::proofs::Asking::get_is_ask))]
+fn get_of(alloc: Global, key: &Key) -> Ask
+    ensures { IsAsk result }
+{
+    key.bytes_are_a_key();
+    Ask::bare(Dialect::Classic, Op::Get, *key, Tokens::new(alloc))
+}
+
+fn asked(cache: &mut Cache, moment: Moment, ask: &Ask) -> Result<Option<usize>, AllocError>
+    requires { IsAsk ask.now }
+{
     let (answer, _found) = cache.apply(moment.seconds, 0, ask)?;
     Ok(len_of(&answer))
 }
@@ -103,7 +112,7 @@ impl Room {
         moment: Moment,
         key: &Key,
     ) -> Result<(), AllocError> {
-        let ask = Ask::bare(Dialect::Classic, Op::Get, *key, Tokens::new(self.alloc));
+        let ask = get_of(self.alloc, key);
         let len = asked(cache, moment, &ask);
         drop_ask(ask);
         match len? {

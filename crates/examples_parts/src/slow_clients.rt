@@ -103,7 +103,7 @@ struct Server {
 
 // A client, what its far end is called, and how much of what that took was looked at.
 #[derive(Drop)]
-struct Client {
+struct SlowClient {
     end: CacheClient,
     name: u32,
     seen: usize,
@@ -113,8 +113,8 @@ struct Client {
 #[derive(Drop)]
 struct Clients {
     server: Server,
-    first: Client,
-    second: Client,
+    first: SlowClient,
+    second: SlowClient,
 }
 
 // The text with what stands between ( and ) written so often.
@@ -164,38 +164,38 @@ fn shown(alloc: Global, bytes: &[u8]) -> Result<String, AllocError> {
 }
 
 impl Server {
-    fn client(&mut self, name: u32, backlog: usize) -> Result<Client, Fail> {
+    fn client(&mut self, name: u32, backlog: usize) -> Result<SlowClient, Fail> {
         let number = connect(self.alloc, &mut self.wire, name)?;
         let limits = Limits {
             held: 65_536,
             unsent: backlog,
         };
-        Ok(Client {
+        Ok(SlowClient {
             end: CacheClient::new(self.alloc, Conn::new(self.alloc, number, limits)),
             name,
             seen: 0,
         })
     }
 
-    fn give(&mut self, client: &mut Client, text: &str) -> Result<(), Fail> {
+    fn give(&mut self, client: &mut SlowClient, text: &str) -> Result<(), Fail> {
         let text = repeated(self.alloc, text)?;
         let bytes = wire(self.alloc, text.as_str())?.into_bytes();
         client.end.conn.readable = true;
         then(&mut self.wire, client.name, Act::Sends(bytes))
     }
 
-    fn let_take(&mut self, client: &mut Client, count: usize) -> Result<(), Fail> {
+    fn let_take(&mut self, client: &mut SlowClient, count: usize) -> Result<(), Fail> {
         client.end.conn.writable = true;
         may_take(&mut self.wire, client.name, count)
     }
 
-    fn turn(&mut self, client: &mut Client) -> AfterTurn {
+    fn turn(&mut self, client: &mut SlowClient) -> AfterTurn {
         client
             .end
             .turn(&mut self.wire, &mut self.cache, Moment { seconds: 0 })
     }
 
-    fn run(&mut self, client: &mut Client) -> AfterTurn {
+    fn run(&mut self, client: &mut SlowClient) -> AfterTurn {
         for _ in 0..1_000 {
             let after = self.turn(client);
             if after != AfterTurn::More {
@@ -206,7 +206,7 @@ impl Server {
     }
 
     // What the client took and wasn't looked at yet.
-    fn taken(&self, client: &mut Client) -> &[u8] {
+    fn taken(&self, client: &mut SlowClient) -> &[u8] {
         let taken = self.wire.taken(client.name);
         let new = taken.get(client.seen..).unwrap_or(b"".as_slice());
         client.seen = taken.len();
@@ -214,7 +214,12 @@ impl Server {
     }
 
     // The client takes as many bytes as these, so often: how often it took these.
-    fn taken_often(&mut self, client: &mut Client, part: &[u8], times: u32) -> Result<u32, Fail> {
+    fn taken_often(
+        &mut self,
+        client: &mut SlowClient,
+        part: &[u8],
+        times: u32,
+    ) -> Result<u32, Fail> {
         let mut count: u32 = 0;
         for _ in 0..times {
             self.let_take(client, part.len())?;
@@ -227,7 +232,7 @@ impl Server {
     }
 
     // A key and how often it is shown.
-    fn often(&mut self, client: &mut Client, text: &str, end: &str) -> Result<String, Fail> {
+    fn often(&mut self, client: &mut SlowClient, text: &str, end: &str) -> Result<String, Fail> {
         let (name, times) = halves(text, " ");
         let part = value_of(self.alloc, name, end)?;
         let count = self.taken_often(client, part.as_slice(), number(times)?)?;
@@ -235,7 +240,7 @@ impl Server {
     }
 
     // What was sent to a client, or is to be.
-    fn told(&self, client: &mut Client, verb: &str) -> Result<String, AllocError> {
+    fn told(&self, client: &mut SlowClient, verb: &str) -> Result<String, AllocError> {
         match verb {
             "unsent" => shown(
                 self.alloc,
@@ -246,7 +251,7 @@ impl Server {
         }
     }
 
-    fn event(&mut self, client: &mut Client, text: &str) -> Result<String, Fail> {
+    fn event(&mut self, client: &mut SlowClient, text: &str) -> Result<String, Fail> {
         let (verb, text) = halves(text, " ");
         match verb {
             "gives" => self.give(client, text)?,

@@ -27,9 +27,9 @@ certificate => not JSON at line 1, column 1
 {"certificate":1,"classes":[{"modulus":1,"runs":[{"first":0}]}]} => classes[0].runs[0] isn't an object with a number "first" and a list of numbers "servers""#
 }
 
-struct OfTexts;
+struct OfCertificateTexts;
 
-impl Teller for OfTexts {
+impl Teller for OfCertificateTexts {
     fn told(alloc: Global, example: &str) -> Result<String, AllocError> {
         match read_certificate(alloc, example) {
             Ok(certificate) => certificate_text(alloc, &certificate),
@@ -40,7 +40,10 @@ impl Teller for OfTexts {
 
 #[test]
 fn certificates_are_read_and_written(rt: HostRuntime) -> Result<(), Fail> {
-    assert_eq!(rt; wrong::<OfTexts>(rt.alloc(), texts())?.as_str(), "");
+    assert_eq!(rt;
+        wrong::<OfCertificateTexts>(rt.alloc(), texts())?.as_str(),
+        ""
+    );
     Ok(())
 }
 

@@ -211,7 +211,7 @@ fn followed(
 
 // All configurations one after another.
 #[derive(Drop)]
-struct Walk {
+struct LedgerWalk {
     ledger: Option<Ledger>,
     servers: Servers,
     out: String,
@@ -220,7 +220,7 @@ struct Walk {
 // What comes of the configuration as the first one.
 fn begun(
     alloc: Global,
-    walk: &mut Walk,
+    walk: &mut LedgerWalk,
     config: &Config,
     opened: Beginning,
 ) -> Result<String, AllocError> {
@@ -235,7 +235,7 @@ fn begun(
 
 fn verdict(
     alloc: Global,
-    walk: &mut Walk,
+    walk: &mut LedgerWalk,
     config: &Config,
     new: Beginning,
 ) -> Result<String, AllocError> {
@@ -246,7 +246,12 @@ fn verdict(
     }
 }
 
-fn walk_on(alloc: Global, walk: &mut Walk, tree: &str, new: Beginning) -> Result<(), AllocError> {
+fn walk_on(
+    alloc: Global,
+    walk: &mut LedgerWalk,
+    tree: &str,
+    new: Beginning,
+) -> Result<(), AllocError> {
     let text = configuration(alloc, tree)?;
     let servers = walk.servers.copy(alloc)?;
     let line = match read_config_after(alloc, servers, text.as_str()) {
@@ -265,7 +270,7 @@ impl Teller for OfSteps {
     fn told(alloc: Global, example: &str) -> Result<String, AllocError> {
         let (begun, trees) = halves(example, ": ");
         let (opened, later) = halves(begun, " ");
-        let mut walk = Walk {
+        let mut walk = LedgerWalk {
             ledger: None,
             servers: Servers::new(alloc),
             out: String::new(alloc),

@@ -315,9 +315,9 @@ fn told_of(alloc: Global, question: &str, text: &str) -> Result<String, AllocErr
     }
 }
 
-struct OfTexts;
+struct OfScriptTexts;
 
-impl Teller for OfTexts {
+impl Teller for OfScriptTexts {
     fn told(alloc: Global, example: &str) -> Result<String, AllocError> {
         let (question, folded) = halves(example, ": ");
         let text = unfolded(alloc, folded)?;
@@ -336,7 +336,7 @@ fn texts_of_scripts(rt: HostRuntime) -> Result<(), Fail> {
         bad_scripts(),
         scripts_of_events(),
     ] {
-        assert_eq!(rt; wrong::<OfTexts>(rt.alloc(), table)?.as_str(), "");
+        assert_eq!(rt; wrong::<OfScriptTexts>(rt.alloc(), table)?.as_str(), "");
     }
     Ok(())
 }

@@ -1,7 +1,7 @@
 //! Ends on 127.0.0.1 that are turned by turns: cache servers, proxies, the program's loop, and the clients' ends of connections.
 
 use crate::wires::proxies::looked_up;
-use crate::wires::served::Served;
+use crate::wires::served::ServeLoop;
 use cache_tcp::CacheEnd;
 use examples_tables::configs::with_configs;
 use examples_tables::playing::{
@@ -43,7 +43,7 @@ pub struct TurnedEnds<'a> {
     // A proxy that isn't turned any more. Its connections stand.
     ended: Option<Proxy>,
     // The program's loop, to which clients connect once it has begun.
-    served: Served<'a, Sockets>,
+    served: ServeLoop<'a, Sockets>,
     // The text of the configuration by which the last proxy began.
     config: String,
     // When news were asked for last.
@@ -264,7 +264,7 @@ impl<'a> TurnedEnds<'a> {
             gone: None,
             proxies: Vec::new(rt.alloc()),
             ended: None,
-            served: Served::new(rt, SERVED, 1),
+            served: ServeLoop::new(rt, SERVED, 1),
             config: String::new(rt.alloc()),
             asked: None,
             played: None,

@@ -55,9 +55,9 @@ impl Teller for OfVerdicts {
     }
 }
 
-struct OfTexts;
+struct OfEvents;
 
-impl Teller for OfTexts {
+impl Teller for OfEvents {
     fn told(alloc: Global, example: &str) -> Result<String, AllocError> {
         both(alloc, Event::info(Subject::Process, &[]), example)
     }
@@ -77,6 +77,6 @@ fn events_of_new_texts(rt: HostRuntime) -> Result<(), Fail> {
 
 #[test]
 fn events_without_keys(rt: HostRuntime) -> Result<(), Fail> {
-    assert_eq!(rt; wrong::<OfTexts>(rt.alloc(), texts())?.as_str(), "");
+    assert_eq!(rt; wrong::<OfEvents>(rt.alloc(), texts())?.as_str(), "");
     Ok(())
 }

@@ -1,5 +1,5 @@
 -- A reply that shows a part of an item shows one that was held.
-use Rattle.std.proofs.Common.{◌≡◌, Bool, true, false, not, ◌&&◌, ◌||◌, is_some, List, [], ◌∷◌, ◌++◌, Option, Some, ⊎_elim, refl, ap, ◌∙◌}
+use Rattle.std.proofs.Common.{◌≡◌, Bool, true, false, not, ◌&&◌, ◌||◌, is_some, List, [], ◌∷◌, Option, Some, ⊎_elim, refl, ap, ◌∙◌}
 use Rattle.mc_types.specs.Tokens.{Letter, LetterC, LetterF, LetterK, LetterS, LetterT, LetterV, LetterO, letter_of, same_letter, has_letter, wants, are_served}
 use Rattle.mc_types.specs.declared.token.Token.{Token}
 use Rattle.mc_types.specs.declared.ask.Op.{Op}

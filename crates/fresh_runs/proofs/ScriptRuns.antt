@@ -11,7 +11,7 @@ use Rattle.fresh_runs.specs.Protocol.{Protocol}
 use Rattle.fresh_runs.specs.Overlap.{Entry, Feeds, Starts, Sends, Happens, Ends, Shows, Passes, Gives, Drops, Frees, Resets, run_of, Follows}
 use Rattle.fresh_runs.specs.OverlapStream.{stream_of}
 use Rattle.fresh_runs.specs.OverlapLaws.{WordsAreKept}
-use Rattle.fresh_runs.specs.ScriptLog.{Piece, Add, Result, Fail, Hold, At, Now, Moment, Reload, Line, Takes, Results, Spills, Loads, Does, lost_by, entries_by, IsPlain, fed_by, core_of, losses_of, made_in, fed_of, tree_loaded_at, words_in, IsScript}
+use Rattle.fresh_runs.specs.ScriptLog.{Plays, Reload, Line, Takes, Results, Spills, Loads, Does, lost_by, entries_by, IsPlain, fed_by, losses_now, core_of, losses_of, made_in, fed_of, tree_loaded_at, words_in, IsScript}
 use Rattle.fresh_runs.proofs.Runs.{way_below}
 use Rattle.fresh_runs.proofs.OverlapReload.{follows_kept}
 
@@ -52,10 +52,6 @@ module _ {P : Protocol} (words : Words) (Bars : ℕ → Ask → ℕ → Ask → 
   lost_follows (Lose s k ∷ losses) log f = lost_follows losses (Happens (Turns s k None) ∷ log) (tt, f)
   lost_follows (Restart s ∷ losses) log f = lost_follows losses (Happens (Restarts s) ∷ log) (tt, f)
 
-  one_lost : (loss : Loss) (log : List (Entry P)) → Follows words Bars opening version log → Follows words Bars opening version (Happens (lost_by loss) ∷ log)
-  one_lost (Lose s k) log f = (tt, f)
-  one_lost (Restart s) log f = (tt, f)
-
 lower : (count n : ℕ) → n < count + 1 → nat_lt count n ≡ false
 lower count n lt = le-ltb count n (let x = lt in omega arith)
 
@@ -71,15 +67,8 @@ module _ {P : Protocol} {T : Type 0} (first : T) (words_of : T → Words) (Bars 
   -- the core's log follows
   pub script_follows : (log : List (Line P T)) → IsScript first words_of Bars opening version depth window text_of MaySpill log → Follows (words log) Bars opening version (core_of log)
   script_follows [] h = tt
-  script_follows (Takes (Piece c b) ∷ log) h = script_follows log h.1
-  script_follows (Takes (Add c b) ∷ log) h = script_follows log h.1
-  script_follows (Takes (Result s) ∷ log) h = script_follows log h.1
-  script_follows (Takes (Fail t m) ∷ log) h = script_follows log h.1
-  script_follows (Takes (Hold s k b) ∷ log) h = script_follows log h.1
-  script_follows (Takes (At t l) ∷ log) h = script_follows log h.1
-  script_follows (Takes (Now l) ∷ log) h = one_lost (words log) Bars opening version l (core_of log) (script_follows log h.1)
-  script_follows (Takes (Moment m) ∷ log) h = script_follows log h.1
-  script_follows (Takes (Reload t) ∷ log) h = script_follows log h.1
+  script_follows (Takes (Plays event) ∷ log) h = lost_follows (words log) Bars opening version (losses_now event) (core_of log) (script_follows log h.1)
+  script_follows (Takes (Reload tree) ∷ log) h = script_follows log h.1
   script_follows (Results n s a o e ∷ log) h = (h.0.0, lost_follows (words log) Bars opening version (losses_of log (made_in log + 1)) (core_of log) (script_follows log h.1))
   script_follows (Spills s k ∷ log) h = (tt, script_follows log h.1)
   script_follows (Loads tree ∷ log) h =
@@ -111,15 +100,8 @@ module _ {P : Protocol} {T : Type 0} (first : T) (words_of : T → Words) (Bars 
   -- a client's stream is what was fed of what the script says
   pub script_streams : (log : List (Line P T)) → IsScript first words_of Bars opening version depth window text_of MaySpill log → (c : ℕ) → stream_of (core_of log) c ≡ fed_of log c
   script_streams [] h c = refl
-  script_streams (Takes (Piece d b) ∷ log) h c = script_streams log h.1 c
-  script_streams (Takes (Add d b) ∷ log) h c = script_streams log h.1 c
-  script_streams (Takes (Result s) ∷ log) h c = script_streams log h.1 c
-  script_streams (Takes (Fail t m) ∷ log) h c = script_streams log h.1 c
-  script_streams (Takes (Hold s k b) ∷ log) h c = script_streams log h.1 c
-  script_streams (Takes (At t l) ∷ log) h c = script_streams log h.1 c
-  script_streams (Takes (Now l) ∷ log) h c = script_streams log h.1 c
-  script_streams (Takes (Moment m) ∷ log) h c = script_streams log h.1 c
-  script_streams (Takes (Reload t) ∷ log) h c = script_streams log h.1 c
+  script_streams (Takes (Plays event) ∷ log) h c = lost_stream (losses_now event) (core_of log) c ∙ script_streams log h.1 c
+  script_streams (Takes (Reload tree) ∷ log) h c = script_streams log h.1 c
   script_streams (Results n s a o e ∷ log) h c = lost_stream (losses_of log (made_in log + 1)) (core_of log) c ∙ script_streams log h.1 c
   script_streams (Spills s k ∷ log) h c = script_streams log h.1 c
   script_streams (Loads tree ∷ log) h c = script_streams log h.1 c
@@ -129,10 +111,6 @@ module _ {P : Protocol} {T : Type 0} (first : T) (words_of : T → Words) (Bars 
   lost_made [] log = refl
   lost_made (Lose s k ∷ losses) log = lost_made losses (Happens (Turns s k None) ∷ log)
   lost_made (Restart s ∷ losses) log = lost_made losses (Happens (Restarts s) ∷ log)
-
-  one_made : (loss : Loss) (past : List Event) → calls_in (lost_by loss ∷ past) ≡ calls_in past
-  one_made (Lose s k) past = refl
-  one_made (Restart s) past = refl
 
   does_made : (entry : Entry P) (log : List (Entry P)) → IsPlain entry → calls_in (run_of (entry ∷ log)) ≡ calls_in (run_of log)
   does_made (Feeds a b) log p = refl
@@ -150,15 +128,8 @@ module _ {P : Protocol} {T : Type 0} (first : T) (words_of : T → Words) (Bars 
   -- turns count the run's calls
   pub script_turns : (log : List (Line P T)) → IsScript first words_of Bars opening version depth window text_of MaySpill log → calls_in (run_of (core_of log)) ≡ made_in log
   script_turns [] h = refl
-  script_turns (Takes (Piece d b) ∷ log) h = script_turns log h.1
-  script_turns (Takes (Add d b) ∷ log) h = script_turns log h.1
-  script_turns (Takes (Result s) ∷ log) h = script_turns log h.1
-  script_turns (Takes (Fail t m) ∷ log) h = script_turns log h.1
-  script_turns (Takes (Hold s k b) ∷ log) h = script_turns log h.1
-  script_turns (Takes (At t l) ∷ log) h = script_turns log h.1
-  script_turns (Takes (Now l) ∷ log) h = one_made l (run_of (core_of log)) ∙ script_turns log h.1
-  script_turns (Takes (Moment m) ∷ log) h = script_turns log h.1
-  script_turns (Takes (Reload t) ∷ log) h = script_turns log h.1
+  script_turns (Takes (Plays event) ∷ log) h = lost_made (losses_now event) (core_of log) ∙ script_turns log h.1
+  script_turns (Takes (Reload tree) ∷ log) h = script_turns log h.1
   script_turns (Results n s a o e ∷ log) h = ap (λ n. n + 1) (lost_made (losses_of log (made_in log + 1)) (core_of log) ∙ script_turns log h.1)
   script_turns (Spills s k ∷ log) h = script_turns log h.1
   script_turns (Loads tree ∷ log) h = script_turns log h.1
@@ -168,10 +139,6 @@ module _ {P : Protocol} {T : Type 0} (first : T) (words_of : T → Words) (Bars 
   lost_loses [] log l = l
   lost_loses (Lose s k ∷ losses) log l = lost_loses losses (Happens (Turns s k None) ∷ log) (refl, l)
   lost_loses (Restart s ∷ losses) log l = lost_loses losses (Happens (Restarts s) ∷ log) l
-
-  one_loses : (loss : Loss) (past : List Event) → LosesOnly past → LosesOnly (lost_by loss ∷ past)
-  one_loses (Lose s k) past l = (refl, l)
-  one_loses (Restart s) past l = l
 
   does_loses : (entry : Entry P) (log : List (Entry P)) → IsPlain entry → LosesOnly (run_of log) → LosesOnly (run_of (entry ∷ log))
   does_loses (Feeds a b) log p l = l
@@ -189,15 +156,8 @@ module _ {P : Protocol} {T : Type 0} (first : T) (words_of : T → Words) (Bars 
   -- nobody but the core writes the servers of a script
   pub script_loses : (log : List (Line P T)) → IsScript first words_of Bars opening version depth window text_of MaySpill log → LosesOnly (run_of (core_of log))
   script_loses [] h = tt
-  script_loses (Takes (Piece d b) ∷ log) h = script_loses log h.1
-  script_loses (Takes (Add d b) ∷ log) h = script_loses log h.1
-  script_loses (Takes (Result s) ∷ log) h = script_loses log h.1
-  script_loses (Takes (Fail t m) ∷ log) h = script_loses log h.1
-  script_loses (Takes (Hold s k b) ∷ log) h = script_loses log h.1
-  script_loses (Takes (At t l) ∷ log) h = script_loses log h.1
-  script_loses (Takes (Now l) ∷ log) h = one_loses l (run_of (core_of log)) (script_loses log h.1)
-  script_loses (Takes (Moment m) ∷ log) h = script_loses log h.1
-  script_loses (Takes (Reload t) ∷ log) h = script_loses log h.1
+  script_loses (Takes (Plays event) ∷ log) h = lost_loses (losses_now event) (core_of log) (script_loses log h.1)
+  script_loses (Takes (Reload tree) ∷ log) h = script_loses log h.1
   script_loses (Results n s a o e ∷ log) h = lost_loses (losses_of log (made_in log + 1)) (core_of log) (script_loses log h.1)
   script_loses (Spills s k ∷ log) h = (refl, script_loses log h.1)
   script_loses (Loads tree ∷ log) h = script_loses log h.1

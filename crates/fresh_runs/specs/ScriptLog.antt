@@ -1,40 +1,28 @@
--- What a script's events bring about, the latest first: over the log of overlapping commands, with the failures, losses and trees that the script names. Source: mcgate's own.
-use Rattle.std.specs.Prelude.{◌≡◌, ℕ, ℤ, ◌+◌, ◌<◌, ◌≤◌, List, [], ◌∷◌, ◌++◌, length, Option, Some, None, if◌then◌else◌, nat_eq, nat_lt, ◌⊎◌}
+-- What a script brings about, the latest first: over the log of overlapping commands, with the failures, losses and trees that the script names. Source: mcgate's own.
+use Rattle.std.specs.Prelude.{◌≡◌, ℕ, ◌+◌, ◌<◌, ◌≤◌, List, [], ◌∷◌, ◌++◌, length, Option, Some, None, if◌then◌else◌, nat_eq, nat_lt, ◌⊎◌}
 use Rattle.mc_types.specs.declared.ask.Ask.{Ask}
 use Rattle.mc_types.specs.declared.answer.Answer.{Answer}
 use Rattle.mc_types.specs.declared.call.Origin.{Origin}
 use Rattle.mc_types.specs.Items.{Item}
 use Rattle.fresh_runs.specs.Calls.{Words, Call, End, Read, Unread, Never}
 use Rattle.fresh_runs.specs.Run.{Event, Calls, Turns, Restarts, calls_so_far, commands_in, IsApart}
-pub use Rattle.fresh_runs.specs.Log.{Manner, Before, After, Junk, Cut}
-use Rattle.fresh_runs.specs.Log.{Loss, Lose, Restart, Part}
+use Rattle.fresh_runs.specs.Log.{Manner, Before, After, Junk, Cut, Loss, Lose, Restart, Scripted, Piece, Add, Result, Fail, Hold, At, Now, Moment, Part}
 use Rattle.fresh_runs.specs.Protocol.{Protocol}
 use Rattle.fresh_runs.specs.Overlap.{Slot, Owner, Ticket, ticket_in, Entry, Feeds, Starts, Sends, Happens, Ends, Shows, Passes, Gives, Drops, Frees, Resets, run_of, front_of, queue_of, output_of, given_of, owner_of, out_of, IsNext, IsFirst, MayFollow}
 
--- an event of a script; a turn counts the calls from there on, from 1
-pub data Scripted (T : Type 0) : Type 0 where
-  -- these bytes come from a client, and all calls have their results (`>`)
-  Piece : (client : ℕ) (bytes : List ℕ) → Scripted T
-  -- these bytes come from a client, and calls stay out (`+`)
-  Add : (client : ℕ) (bytes : List ℕ) → Scripted T
-  -- the first call that is out at a server has its result, where there is one
-  Result : (server : ℕ) → Scripted T
-  -- the call of this turn fails
-  Fail : (turn : ℕ) (manner : Manner) → Scripted T
-  -- a server holds this before the run
-  Hold : (server : ℕ) (key content : List ℕ) → Scripted T
-  -- something is lost just before the call of this turn
-  At : (turn : ℕ) (loss : Loss) → Scripted T
-  -- something is lost now
-  Now : Loss → Scripted T
-  -- the time from now on
-  Moment : ℤ → Scripted T
-  -- a new tree
-  Reload : T → Scripted T
+-- what a script says next: an event, or a new tree
+pub data Cue (T : Type 0) : Type 0 where
+  Plays : Scripted → Cue T
+  Reload : T → Cue T
+
+-- what a cue makes of something: what its event makes of it; a new tree changes nothing
+abbrev pub by_cue : {A T : Type 0} → (Scripted → A → A) → Cue T → A → A
+by_cue change (Plays event) before = change event before
+by_cue change (Reload tree) before = before
 
 pub data Line (P : Protocol) (T : Type 0) : Type 0 where
-  -- the script's next event is taken up
-  Takes : Scripted T → Line P T
+  -- the script's next cue is taken up
+  Takes : Cue T → Line P T
   -- a call that was out has its result, after what the script says is lost just before it
   Results : (number server : ℕ) (ask : Ask) (origin : Origin) (end : End) → Line P T
   -- a server drops a key by itself: it expired, or there was no room
@@ -54,7 +42,7 @@ entries_by [] log = log
 entries_by (loss ∷ losses) log = entries_by losses (Happens (lost_by loss) ∷ log)
 
 -- how the call of this turn is to fail after an event, at which so many calls had their results
-abbrev pub named_by : {T : Type 0} → Scripted T → ℕ → ℕ → Option Manner → Option Manner
+abbrev pub named_by : Scripted → ℕ → ℕ → Option Manner → Option Manner
 named_by (Fail turn manner) made t before = if nat_eq (made + turn) t then Some manner else before
 named_by (Piece client bytes) made t before = before
 named_by (Add client bytes) made t before = before
@@ -63,10 +51,9 @@ named_by (Hold server key content) made t before = before
 named_by (At turn loss) made t before = before
 named_by (Now loss) made t before = before
 named_by (Moment moment) made t before = before
-named_by (Reload tree) made t before = before
 
 -- what is to be lost just before the call of this turn
-abbrev pub lost_at : {T : Type 0} → Scripted T → ℕ → ℕ → List Loss → List Loss
+abbrev pub lost_at : Scripted → ℕ → ℕ → List Loss → List Loss
 lost_at (At turn loss) made t before = if nat_eq (made + turn) t then before ++ loss ∷ [] else before
 lost_at (Piece client bytes) made t before = before
 lost_at (Add client bytes) made t before = before
@@ -75,31 +62,28 @@ lost_at (Fail turn manner) made t before = before
 lost_at (Hold server key content) made t before = before
 lost_at (Now loss) made t before = before
 lost_at (Moment moment) made t before = before
-lost_at (Reload tree) made t before = before
 
--- the bytes that an event brings from a client
-abbrev pub said_by : {T : Type 0} → Scripted T → ℕ → List ℕ
-said_by (Piece client bytes) c = if nat_eq client c then bytes else []
-said_by (Add client bytes) c = if nat_eq client c then bytes else []
-said_by (Result server) c = []
-said_by (Fail turn manner) c = []
-said_by (Hold server key content) c = []
-said_by (At turn loss) c = []
-said_by (Now loss) c = []
-said_by (Moment moment) c = []
-said_by (Reload tree) c = []
+-- what an event loses by itself
+abbrev pub losses_now : Scripted → List Loss
+losses_now (Now loss) = loss ∷ []
+losses_now (Piece client bytes) = []
+losses_now (Add client bytes) = []
+losses_now (Result server) = []
+losses_now (Fail turn manner) = []
+losses_now (Hold server key content) = []
+losses_now (At turn loss) = []
+losses_now (Moment moment) = []
 
--- the entries that an event is by itself
-abbrev pub core_by : {P : Protocol} {T : Type 0} → Scripted T → List (Entry P) → List (Entry P)
-core_by (Now loss) log = Happens (lost_by loss) ∷ log
-core_by (Piece client bytes) log = log
-core_by (Add client bytes) log = log
-core_by (Result server) log = log
-core_by (Fail turn manner) log = log
-core_by (Hold server key content) log = log
-core_by (At turn loss) log = log
-core_by (Moment moment) log = log
-core_by (Reload tree) log = log
+-- the bytes that an event says for a client
+abbrev pub event_bytes : Scripted → ℕ → List ℕ
+event_bytes (Piece client bytes) c = if nat_eq client c then bytes else []
+event_bytes (Add client bytes) c = if nat_eq client c then bytes else []
+event_bytes (Result server) c = []
+event_bytes (Fail turn manner) c = []
+event_bytes (Hold server key content) c = []
+event_bytes (At turn loss) c = []
+event_bytes (Now loss) c = []
+event_bytes (Moment moment) c = []
 
 -- an entry that is no event, and gives no client's number away
 abbrev pub IsPlain : {P : Protocol} → Entry P → Type 0
@@ -133,7 +117,7 @@ module _ {P : Protocol} {T : Type 0} where
   -- how many calls had their results
   abbrev pub made_in : List (Line P T) → ℕ
   made_in [] = 0
-  made_in (Takes event ∷ log) = made_in log
+  made_in (Takes cue ∷ log) = made_in log
   made_in (Results number server ask origin end ∷ log) = made_in log + 1
   made_in (Spills server key ∷ log) = made_in log
   made_in (Loads tree ∷ log) = made_in log
@@ -142,7 +126,7 @@ module _ {P : Protocol} {T : Type 0} where
   -- what is to be lost just before the call of a turn, in order
   abbrev pub losses_of : List (Line P T) → ℕ → List Loss
   losses_of [] t = []
-  losses_of (Takes event ∷ log) t = lost_at event (made_in log) t (losses_of log t)
+  losses_of (Takes cue ∷ log) t = by_cue (λ event. lost_at event (made_in log) t) cue (losses_of log t)
   losses_of (Results number server ask origin end ∷ log) t = losses_of log t
   losses_of (Spills server key ∷ log) t = losses_of log t
   losses_of (Loads tree ∷ log) t = losses_of log t
@@ -151,7 +135,7 @@ module _ {P : Protocol} {T : Type 0} where
   -- the log of the core
   abbrev pub core_of : List (Line P T) → List (Entry P)
   core_of [] = []
-  core_of (Takes event ∷ log) = core_by event (core_of log)
+  core_of (Takes cue ∷ log) = by_cue (λ event. entries_by (losses_now event)) cue (core_of log)
   core_of (Results number server ask origin end ∷ log) = Happens (Calls number server ask origin end) ∷ entries_by (losses_of log (made_in log + 1)) (core_of log)
   core_of (Spills server key ∷ log) = Happens (Turns server key None) ∷ core_of log
   core_of (Loads tree ∷ log) = core_of log
@@ -160,16 +144,16 @@ module _ {P : Protocol} {T : Type 0} where
   -- how the call of a turn is to fail; of two events that name it the later counts
   abbrev pub named_in : List (Line P T) → ℕ → Option Manner
   named_in [] t = None
-  named_in (Takes event ∷ log) t = named_by event (made_in log) t (named_in log t)
+  named_in (Takes cue ∷ log) t = by_cue (λ event. named_by event (made_in log) t) cue (named_in log t)
   named_in (Results number server ask origin end ∷ log) t = named_in log t
   named_in (Spills server key ∷ log) t = named_in log t
   named_in (Loads tree ∷ log) t = named_in log t
   named_in (Does entry ∷ log) t = named_in log t
 
-  -- the script's events, in order
-  abbrev pub script_of : List (Line P T) → List (Scripted T)
+  -- the script's cues, in order
+  abbrev pub script_of : List (Line P T) → List (Cue T)
   script_of [] = []
-  script_of (Takes event ∷ log) = script_of log ++ event ∷ []
+  script_of (Takes cue ∷ log) = script_of log ++ cue ∷ []
   script_of (Results number server ask origin end ∷ log) = script_of log
   script_of (Spills server key ∷ log) = script_of log
   script_of (Loads tree ∷ log) = script_of log
@@ -178,7 +162,7 @@ module _ {P : Protocol} {T : Type 0} where
   -- what a client said by the script, and what of it was fed
   abbrev pub said_of : List (Line P T) → ℕ → List ℕ
   said_of [] c = []
-  said_of (Takes event ∷ log) c = said_of log c ++ said_by event c
+  said_of (Takes cue ∷ log) c = by_cue (λ event before. before ++ event_bytes event c) cue (said_of log c)
   said_of (Results number server ask origin end ∷ log) c = said_of log c
   said_of (Spills server key ∷ log) c = said_of log c
   said_of (Loads tree ∷ log) c = said_of log c
@@ -186,25 +170,25 @@ module _ {P : Protocol} {T : Type 0} where
 
   abbrev pub fed_of : List (Line P T) → ℕ → List ℕ
   fed_of [] c = []
-  fed_of (Takes event ∷ log) c = fed_of log c
+  fed_of (Takes cue ∷ log) c = fed_of log c
   fed_of (Results number server ask origin end ∷ log) c = fed_of log c
   fed_of (Spills server key ∷ log) c = fed_of log c
   fed_of (Loads tree ∷ log) c = fed_of log c
   fed_of (Does entry ∷ log) c = fed_of log c ++ fed_by entry c
 
-  -- the latest event of the script, where no call had its result since
-  abbrev pub current : List (Line P T) → Option (Scripted T)
+  -- the latest cue of the script, where no call had its result since
+  abbrev pub current : List (Line P T) → Option (Cue T)
   current [] = None
-  current (Takes event ∷ log) = Some event
+  current (Takes cue ∷ log) = Some cue
   current (Results number server ask origin end ∷ log) = None
   current (Spills server key ∷ log) = current log
   current (Loads tree ∷ log) = current log
   current (Does entry ∷ log) = current log
 
-  -- the latest event of the script
-  abbrev pub latest : List (Line P T) → Option (Scripted T)
+  -- the latest cue of the script
+  abbrev pub latest : List (Line P T) → Option (Cue T)
   latest [] = None
-  latest (Takes event ∷ log) = Some event
+  latest (Takes cue ∷ log) = Some cue
   latest (Results number server ask origin end ∷ log) = latest log
   latest (Spills server key ∷ log) = latest log
   latest (Loads tree ∷ log) = latest log
@@ -214,7 +198,7 @@ module _ {P : Protocol} {T : Type 0} where
     -- the tree of a command, by its number: that which was loaded when it began
     abbrev pub tree_loaded_at : List (Line P T) → ℕ → T
     tree_loaded_at [] n = first
-    tree_loaded_at (Takes event ∷ log) n = tree_loaded_at log n
+    tree_loaded_at (Takes cue ∷ log) n = tree_loaded_at log n
     tree_loaded_at (Results number server ask origin end ∷ log) n = tree_loaded_at log n
     tree_loaded_at (Spills server key ∷ log) n = tree_loaded_at log n
     tree_loaded_at (Loads tree ∷ log) n = if nat_lt (commands_in (run_of (core_of log))) n then tree else tree_loaded_at log n
@@ -245,9 +229,9 @@ module _ {P : Protocol} {T : Type 0} (first : T) (words_of : T → Words) (Bars 
   EndsAs ask (Some (Cut count)) Never = ⊥
 
   -- whose result comes: after `result` the first call of that server, once; after `>` the first of the least server that has one out; after others none
-  abbrev pub IsAwaited : Option (Scripted T) → Option (Scripted T) → List (Entry P) → ℕ → Type 0
-  IsAwaited (Some (Result s)) late log server = s ≡ server
-  IsAwaited now (Some (Piece client bytes)) log server = (s : ℕ) → s < server → out_of log s ≡ []
+  abbrev pub IsAwaited : Option (Cue T) → Option (Cue T) → List (Entry P) → ℕ → Type 0
+  IsAwaited (Some (Plays (Result s))) late log server = s ≡ server
+  IsAwaited now (Some (Plays (Piece client bytes))) log server = (s : ℕ) → s < server → out_of log s ≡ []
   IsAwaited now late log server = ⊥
 
   -- the next call of a command is one of this server
@@ -272,13 +256,13 @@ module _ {P : Protocol} {T : Type 0} (first : T) (words_of : T → Words) (Bars 
   IsQuiet words log = IsStill words log × ((c : ℕ) → given_of log c ≡ output_of version log c)
 
   -- after `>` no call stays out
-  abbrev pub IsOver : Option (Scripted T) → List (Entry P) → Type 0
-  IsOver (Some (Piece client bytes)) log = (s : ℕ) → out_of log s ≡ []
+  abbrev pub IsOver : Option (Cue T) → List (Entry P) → Type 0
+  IsOver (Some (Plays (Piece client bytes))) log = (s : ℕ) → out_of log s ≡ []
   IsOver late log = Unit {0}
 
   -- after `result` no call is out at that server, where none had its result
-  abbrev pub IsMade : Option (Scripted T) → List (Entry P) → Type 0
-  IsMade (Some (Result server)) log = out_of log server ≡ []
+  abbrev pub IsMade : Option (Cue T) → List (Entry P) → Type 0
+  IsMade (Some (Plays (Result server))) log = out_of log server ≡ []
   IsMade now log = Unit {0}
 
   -- an entry feeds no more than was said
@@ -288,7 +272,7 @@ module _ {P : Protocol} {T : Type 0} (first : T) (words_of : T → Words) (Bars 
 
   -- the line may come after the log
   abbrev pub MayBe : List (Line P T) → Line P T → Type 0
-  MayBe log (Takes event) = IsQuiet (words_in first words_of log) (core_of log) × IsOver (latest log) (core_of log) × IsMade (current log) (core_of log) × ((c : ℕ) → fed_of log c ≡ said_of log c)
+  MayBe log (Takes cue) = IsQuiet (words_in first words_of log) (core_of log) × IsOver (latest log) (core_of log) × IsMade (current log) (core_of log) × ((c : ℕ) → fed_of log c ≡ said_of log c)
   MayBe log (Results number server ask origin end) =
       MayFollow (words_in first words_of log) Bars opening version (entries_by (losses_of log (made_in log + 1)) (core_of log)) (Happens (Calls number server ask origin end))
       × EndsAs ask (named_in log (made_in log + 1)) end

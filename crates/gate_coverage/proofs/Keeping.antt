@@ -142,7 +142,7 @@ delete_is_other op e f = cc
 
 module _ (s : ℕ) (ask : Ask) (op : ask.op ≡ Delete) where
   abbrev Kept : Plan → List Call → Given → Type 0
-  Kept p calls given = rank given ≤ 1 → Each (Leaves s) calls → kept s p ≡ true
+  Kept p calls given = rank given ≤ 1 → Each (Leaves s) calls → kept Delete s p ≡ true
 
   away : (a g : Bool) → g ≡ true → (a && g) ≡ false → not a ≡ true
   away true g h f = absurd (cc)
@@ -174,25 +174,25 @@ module _ (s : ℕ) (ask : Ask) (op : ask.op ≡ Delete) where
     word_keeps (WarmUp cold warm e) b calls given w le leaves = word_keeps cold b calls given (only_other ask.op _ _ (delete_is_other ask.op op) w) le leaves
     word_keeps (ByOperation policies) b calls given w le leaves = policy_keeps policies b calls given w le leaves
 
-    each_keeps : (ps : Plans) (b : ℕ) (calls : List Call) (all : List Given) → WordOfAll ps ask Client b calls all → NoneAbove rank all 1 → Each (Leaves s) calls → kept_each s ps ≡ true
+    each_keeps : (ps : Plans) (b : ℕ) (calls : List Call) (all : List Given) → WordOfAll ps ask Client b calls all → NoneAbove rank all 1 → Each (Leaves s) calls → kept_each Delete s ps ≡ true
     each_keeps End b calls all w none leaves = refl
     each_keeps (More p ps) b calls all w none leaves =
         let h = subst (λ a. NoneAbove rank a 1) w.6 none in
         let l = subst (Each (Leaves s)) w.2 leaves in
-        both (kept s p) _ (word_keeps p b w.0 w.3 w.4 h.0 (each_left (Leaves s) w.0 w.1 l)) (each_keeps ps (b + length w.0) w.1 w.5 w.7 h.1 (each_right (Leaves s) w.0 w.1 l))
+        both (kept Delete s p) _ (word_keeps p b w.0 w.3 w.4 h.0 (each_left (Leaves s) w.0 w.1 l)) (each_keeps ps (b + length w.0) w.1 w.5 w.7 h.1 (each_right (Leaves s) w.0 w.1 l))
 
-    first_keeps : (ps : Plans) (b : ℕ) (calls : List Call) (given : Given) → WordOfFirst ps 4 ask Client b calls given → rank given ≤ 1 → Each (Leaves s) calls → kept_first s ps ≡ true
+    first_keeps : (ps : Plans) (b : ℕ) (calls : List Call) (given : Given) → WordOfFirst ps 4 ask Client b calls given → rank given ≤ 1 → Each (Leaves s) calls → kept_first Delete s ps ≡ true
     first_keeps End b calls given w le leaves = absurd w
-    first_keeps (More p ps) b calls given (inl w) le leaves = either_left (kept s p) _ (word_keeps p b calls given w.0 le leaves)
+    first_keeps (More p ps) b calls given (inl w) le leaves = either_left (kept Delete s p) _ (word_keeps p b calls given w.0 le leaves)
     first_keeps (More p ps) b calls given (inr w) le leaves =
         let l = subst (Each (Leaves s)) w.2 leaves in
-        either_right (kept s p) _ (both (fails Delete p) _ (subst (λ o. fails o p ≡ true) op (word_fails p ask Client b w.0 w.3 w.4 w.5)) (first_keeps ps (b + length w.0) w.1 given w.6 le (each_right (Leaves s) w.0 w.1 l)))
+        either_right (kept Delete s p) _ (both (fails Delete p) _ (subst (λ o. fails o p ≡ true) op (word_fails p ask Client b w.0 w.3 w.4 w.5)) (first_keeps ps (b + length w.0) w.1 given w.6 le (each_right (Leaves s) w.0 w.1 l)))
 
-    head_keeps : (ps : Plans) (b : ℕ) (calls : List Call) (given : Given) → WordOfHead ps ask Client b calls given → rank given ≤ 1 → Each (Leaves s) calls → kept_head s ps ≡ true
+    head_keeps : (ps : Plans) (b : ℕ) (calls : List Call) (given : Given) → WordOfHead ps ask Client b calls given → rank given ≤ 1 → Each (Leaves s) calls → kept_head Delete s ps ≡ true
     head_keeps End b calls given w le leaves = absurd w
     head_keeps (More p ps) b calls given w le leaves = word_keeps p b calls given w le leaves
 
-    policy_keeps : (ps : PlanPolicies) (b : ℕ) (calls : List Call) (given : Given) → WordOfPolicy ps ask Client b calls given → rank given ≤ 1 → Each (Leaves s) calls → kept_policy s ps ≡ true
+    policy_keeps : (ps : PlanPolicies) (b : ℕ) (calls : List Call) (given : Given) → WordOfPolicy ps ask Client b calls given → rank given ≤ 1 → Each (Leaves s) calls → kept_policy Delete s ps ≡ true
     policy_keeps (Otherwise p) b calls given w le leaves = word_keeps p b calls given w le leaves
     policy_keeps (Policy o p rest) b calls given w le leaves =
         ⊎_elim
@@ -239,7 +239,7 @@ module _ (s : ℕ) (kind : Deleting) where
   elsewhere false g h = refl
 
   mutual
-    keeps_word : (p : Plan) → IsGood p → (b : ℕ) → kept s p ≡ true → Found p b
+    keeps_word : (p : Plan) → IsGood p → (b : ℕ) → kept Delete s p ≡ true → Found p b
     keeps_word (Server t) good b h =
         (record { server = t; ask = a_delete kind; origin = Client; outcome = Answered (gone_for kind) } ∷ [], given_by b (Answered (gone_for kind)), (Answered (gone_for kind), gone_fits kind, refl, refl), gone_says kind, (elsewhere (nat_eq t s) (says_gone (gone_for kind)) h, tt))
     keeps_word Null good b h = ([], null_reply (a_delete kind), (refl, refl), null_gone kind, tt)
@@ -253,31 +253,31 @@ module _ (s : ℕ) (kind : Deleting) where
     keeps_word (WarmUp cold warm e) good b h = keeps_word cold good.0 b h
     keeps_word (ByOperation policies) good b h = keeps_policy policies good b h
 
-    keeps_each : (ps : Plans) → AreGood ps → (b : ℕ) → kept_each s ps ≡ true → (calls : List Call) × (all : List Given) × WordOfAll ps (a_delete kind) Client b calls all × Each IsGone all × Each (Leaves s) calls
+    keeps_each : (ps : Plans) → AreGood ps → (b : ℕ) → kept_each Delete s ps ≡ true → (calls : List Call) × (all : List Given) × WordOfAll ps (a_delete kind) Client b calls all × Each IsGone all × Each (Leaves s) calls
     keeps_each End good b h = ([], [], (refl, refl), tt, tt)
     keeps_each (More p ps) good b h =
-        let t = both_split (kept s p) (kept_each s ps) h in
+        let t = both_split (kept Delete s p) (kept_each Delete s ps) h in
         let f = keeps_word p good.0 b t.0 in
         let rest = keeps_each ps good.1 (b + length f.0) t.1 in
         (f.0 ++ rest.0, f.1 ∷ rest.1, (f.0, rest.0, refl, f.1, f.2, rest.1, refl, rest.2), (f.3, rest.3), each_append (Leaves s) f.0 rest.0 f.4 rest.4)
 
-    keeps_first : (ps : Plans) → AreGood ps → (b : ℕ) → kept_first s ps ≡ true → (calls : List Call) × (given : Given) × WordOfFirst ps 4 (a_delete kind) Client b calls given × IsGone given × Each (Leaves s) calls
+    keeps_first : (ps : Plans) → AreGood ps → (b : ℕ) → kept_first Delete s ps ≡ true → (calls : List Call) × (given : Given) × WordOfFirst ps 4 (a_delete kind) Client b calls given × IsGone given × Each (Leaves s) calls
     keeps_first End good b h = absurd (cc)
     keeps_first (More p ps) good b h =
         ⊎_elim
         (λ here. let f = keeps_word p good.0 b here in (f.0, f.1, inl (f.2, inl (let le = gone_rank f.1.reply f.3 in omega arith)), f.3, f.4))
         (λ there.
-        let t = both_split (fails Delete p) (kept_first s ps) there in
+        let t = both_split (fails Delete p) (kept_first Delete s ps) there in
         let f = low p good.0 (a_delete kind) Client b in
         let rest = keeps_first ps good.1 (b + length f.0) t.1 in
         (f.0 ++ rest.0, rest.1, inr (f.0, rest.0, refl, f.1, f.2, f.3.worst t.0, rest.2), rest.3, each_append (Leaves s) f.0 rest.0 (failed_leaves s f.0 f.3.failed) rest.4))
-        (either_split (kept s p) (fails Delete p && kept_first s ps) h)
+        (either_split (kept Delete s p) (fails Delete p && kept_first Delete s ps) h)
 
-    keeps_head : (ps : Plans) → AreGood ps → (b : ℕ) → kept_head s ps ≡ true → (calls : List Call) × (given : Given) × WordOfHead ps (a_delete kind) Client b calls given × IsGone given × Each (Leaves s) calls
+    keeps_head : (ps : Plans) → AreGood ps → (b : ℕ) → kept_head Delete s ps ≡ true → (calls : List Call) × (given : Given) × WordOfHead ps (a_delete kind) Client b calls given × IsGone given × Each (Leaves s) calls
     keeps_head End good b h = absurd (cc)
     keeps_head (More p ps) good b h = keeps_word p good.0 b h
 
-    keeps_policy : (ps : PlanPolicies) → ArePoliciesGood ps → (b : ℕ) → kept_policy s ps ≡ true → (calls : List Call) × (given : Given) × WordOfPolicy ps (a_delete kind) Client b calls given × IsGone given × Each (Leaves s) calls
+    keeps_policy : (ps : PlanPolicies) → ArePoliciesGood ps → (b : ℕ) → kept_policy Delete s ps ≡ true → (calls : List Call) × (given : Given) × WordOfPolicy ps (a_delete kind) Client b calls given × IsGone given × Each (Leaves s) calls
     keeps_policy (Otherwise p) good b h = keeps_word p good b h
     keeps_policy (Policy o p rest) good b h =
         ⊎_elim
@@ -290,7 +290,7 @@ module _ (plain : Plan) (kind : Deleting) (s : ℕ) (good : IsGood plain) where
   cleared_clears h ask is op dialect calls reply from w ack =
       ⊎_elim
       (λ clears. clears)
-      (λ leaves. absurd (not_false (kept s plain) h (word_keeps s ask op plain 0 calls (record { reply = reply; from = from }) w (gone_rank reply ack.1) leaves)))
+      (λ leaves. absurd (not_false (kept Delete s plain) h (word_keeps s ask op plain 0 calls (record { reply = reply; from = from }) w (gone_rank reply ack.1) leaves)))
       (clears_or_leaves calls s)
 
   clears_cleared : Clears plain kind s → cleared plain s ≡ true
@@ -300,7 +300,7 @@ module _ (plain : Plan) (kind : Deleting) (s : ℕ) (good : IsGood plain) where
       let f = keeps_word s kind plain good 0 is in
       absurd (leaves_clears f.0 s f.4 (clears (a_delete kind) (is_a_delete kind) refl refl f.0 f.1.reply f.1.from f.2 (refl, f.3))))
       (λ is. ap not is)
-      (bool_is (kept s plain))
+      (bool_is (kept Delete s plain))
 
 pub cleared_is_exact : ClearedIsExact
 cleared_is_exact plain kind s good = (cleared_clears plain kind s good, clears_cleared plain kind s good)

@@ -1,7 +1,7 @@
 -- What is left of a plain tree for an operation comes to the same by the operation, and is no larger.
 use Rattle.std.proofs.Common.{◌≡◌, ℕ, ◌+◌, ◌≤◌, Bool, true, false, cond, ◌||◌, ◌&&◌, refl, ap₂, arith}
 use Rattle.mc_types.specs.declared.ask.Op.{Op}
-use Rattle.mc_types.specs.declared.ask.Op.TheVariants.{Add, Delete}
+use Rattle.mc_types.specs.declared.ask.Op.TheVariants.{Add}
 use Rattle.route_tree.specs.Operation.{same_op}
 use Rattle.route_tree.specs.Plan.{Plan, Plans, PlanPolicies, Server, Null, Failing, AllSync, Failover, MissFailover, WarmUp, ByOperation, End, More, Otherwise, Policy}
 use Rattle.route_tree.specs.PlanCode.{plan_size, policies_plan_size}
@@ -45,8 +45,8 @@ left_copied op s p = left_same op Bool (copied op s) (copied_policy op s) (λ ps
 pub left_asks : (op : Op) (p : Plan) → asks op (for_op op p) ≡ asks op p
 left_asks op p = left_same op Bool (asks op) (asks_policy op) (λ ps. refl) (λ q. refl) (λ o q rest. refl) (λ c w e. refl) p
 
-pub left_kept : (s : ℕ) (p : Plan) → kept s (for_op Delete p) ≡ kept s p
-left_kept s p = left_same Delete Bool (kept s) (kept_policy s) (λ ps. refl) (λ q. refl) (λ o q rest. refl) (λ c w e. refl) p
+pub left_kept : (op : Op) (s : ℕ) (p : Plan) → kept op s (for_op op p) ≡ kept op s p
+left_kept op s p = left_same op Bool (kept op s) (kept_policy op s) (λ ps. refl) (λ q. refl) (λ o q rest. refl) (λ c w e. refl) p
 
 -- ---- sizes
 

@@ -74,7 +74,7 @@ module _ (text : List ℕ) (pool : List ℕ) where
 
   module _ (hash : ℕ) where
     abbrev IsSure : Route → Type 0
-    IsSure r = doubts text pool r ≡ false → kept (pool_server_at hash pool) (plain_for hash text r) ≡ false
+    IsSure r = doubts text pool r ≡ false → kept Delete (pool_server_at hash pool) (plain_for hash text r) ≡ false
 
     abbrev BestIsSure : Option (List ℕ × Route) → Type 0
     BestIsSure None = Unit {0}
@@ -85,7 +85,7 @@ module _ (text : List ℕ) (pool : List ℕ) where
     best_sure false p r best h k = k
 
     mutual
-      pub sure : (r : Route) → doubts text pool r ≡ false → kept (pool_server_at hash pool) (plain_for hash text r) ≡ false
+      pub sure : (r : Route) → doubts text pool r ≡ false → kept Delete (pool_server_at hash pool) (plain_for hash text r) ≡ false
       sure (Pool servers) h = is_same (pool_server_at hash servers) (pool_server_at hash pool) (ap (pool_server_at hash) (same_pool servers pool (not_false (bytes_eq servers pool) h)))
       sure (Server x) h = is_same x (pool_server_at hash pool) (sym (alone x hash) ∙ ap (pool_server_at hash) (same_pool (x ∷ []) pool (not_false (bytes_eq (x ∷ []) pool) h)))
       sure Null h = absurd (cc)
@@ -96,26 +96,26 @@ module _ (text : List ℕ) (pool : List ℕ) where
       sure (WarmUp cold warm e) h = sure cold h
       sure (ByOperation ps) h = policy_sure ps h
       sure (ByPrefix ps) h =
-          ap (kept (pool_server_at hash pool)) (plain_for_chosen hash text ps) ∙ chosen_sure ps None tt (sym (doubts_of_chosen ps) ∙ h)
+          ap (kept Delete (pool_server_at hash pool)) (plain_for_chosen hash text ps) ∙ chosen_sure ps None tt (sym (doubts_of_chosen ps) ∙ h)
 
-      each_sure : (rs : Routes) → doubts_each text pool rs ≡ false → kept_each (pool_server_at hash pool) (plain_for_all hash text rs) ≡ false
+      each_sure : (rs : Routes) → doubts_each text pool rs ≡ false → kept_each Delete (pool_server_at hash pool) (plain_for_all hash text rs) ≡ false
       each_sure End h = h
-      each_sure (More r rs) h = and_less (doubts text pool r) (doubts_each text pool rs) (kept (pool_server_at hash pool) (plain_for hash text r)) (kept_each (pool_server_at hash pool) (plain_for_all hash text rs)) (sure r) (each_sure rs) h
+      each_sure (More r rs) h = and_less (doubts text pool r) (doubts_each text pool rs) (kept Delete (pool_server_at hash pool) (plain_for hash text r)) (kept_each Delete (pool_server_at hash pool) (plain_for_all hash text rs)) (sure r) (each_sure rs) h
 
-      first_sure : (rs : Routes) → doubts_first text pool rs ≡ false → kept_first (pool_server_at hash pool) (plain_for_all hash text rs) ≡ false
+      first_sure : (rs : Routes) → doubts_first text pool rs ≡ false → kept_first Delete (pool_server_at hash pool) (plain_for_all hash text rs) ≡ false
       first_sure End h = refl
       first_sure (More r rs) h =
-          let g : (fails Delete (plain_for 0 text r) && doubts_first text pool rs) ≡ false → (fails Delete (plain_for hash text r) && kept_first (pool_server_at hash pool) (plain_for_all hash text rs)) ≡ false =
-          λ k. under (fails Delete (plain_for hash text r)) (doubts_first text pool rs) (kept_first (pool_server_at hash pool) (plain_for_all hash text rs)) (first_sure rs) (subst (λ (f : Bool). (f && doubts_first text pool rs) ≡ false) ((same 0 hash text r).fails_same Delete) k) in
-          or_less (doubts text pool r) (fails Delete (plain_for 0 text r) && doubts_first text pool rs) (kept (pool_server_at hash pool) (plain_for hash text r)) (fails Delete (plain_for hash text r) && kept_first (pool_server_at hash pool) (plain_for_all hash text rs)) (sure r) g h
+          let g : (fails Delete (plain_for 0 text r) && doubts_first text pool rs) ≡ false → (fails Delete (plain_for hash text r) && kept_first Delete (pool_server_at hash pool) (plain_for_all hash text rs)) ≡ false =
+          λ k. under (fails Delete (plain_for hash text r)) (doubts_first text pool rs) (kept_first Delete (pool_server_at hash pool) (plain_for_all hash text rs)) (first_sure rs) (subst (λ (f : Bool). (f && doubts_first text pool rs) ≡ false) ((same 0 hash text r).fails_same Delete) k) in
+          or_less (doubts text pool r) (fails Delete (plain_for 0 text r) && doubts_first text pool rs) (kept Delete (pool_server_at hash pool) (plain_for hash text r)) (fails Delete (plain_for hash text r) && kept_first Delete (pool_server_at hash pool) (plain_for_all hash text rs)) (sure r) g h
 
-      head_sure : (rs : Routes) → doubts_head text pool rs ≡ false → kept_head (pool_server_at hash pool) (plain_for_all hash text rs) ≡ false
+      head_sure : (rs : Routes) → doubts_head text pool rs ≡ false → kept_head Delete (pool_server_at hash pool) (plain_for_all hash text rs) ≡ false
       head_sure End h = refl
       head_sure (More r rs) h = sure r h
 
-      policy_sure : (ps : Policies) → doubts_policy text pool ps ≡ false → kept_policy (pool_server_at hash pool) (plain_for_policies hash text ps) ≡ false
+      policy_sure : (ps : Policies) → doubts_policy text pool ps ≡ false → kept_policy Delete (pool_server_at hash pool) (plain_for_policies hash text ps) ≡ false
       policy_sure (Otherwise r) h = sure r h
-      policy_sure (Policy o r ps) h = if_less (same_op o Delete) (doubts text pool r) (doubts_policy text pool ps) (kept (pool_server_at hash pool) (plain_for hash text r)) (kept_policy (pool_server_at hash pool) (plain_for_policies hash text ps)) (sure r) (policy_sure ps) h
+      policy_sure (Policy o r ps) h = if_less (same_op o Delete) (doubts text pool r) (doubts_policy text pool ps) (kept Delete (pool_server_at hash pool) (plain_for hash text r)) (kept_policy Delete (pool_server_at hash pool) (plain_for_policies hash text ps)) (sure r) (policy_sure ps) h
 
       chosen_sure : (ps : Prefixes) (best : Option (List ℕ × Route)) → BestIsSure best → IsSure (chosen text ps best)
       chosen_sure (Wildcard r) None h = sure r

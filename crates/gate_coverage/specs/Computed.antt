@@ -169,9 +169,9 @@ module _ (op : Op) (s : ℕ) where
     copied_policy (Otherwise p) = copied p
     copied_policy (Policy o p rest) = if same_op o op then copied p else copied_policy rest
 
-module _ (s : ℕ) where
+module _ (op : Op) (s : ℕ) where
   abbrev mutual
-    -- a delete can be acknowledged with the server not cleared
+    -- a delete can be acknowledged with the server not cleared; this says nothing of another operation
     pub kept : Plan → Bool
     kept (Server t) = not (nat_eq t s)
     kept Null = true
@@ -188,7 +188,7 @@ module _ (s : ℕ) where
 
     pub kept_first : Plans → Bool
     kept_first End = false
-    kept_first (More p ps) = kept p || (fails Delete p && kept_first ps)
+    kept_first (More p ps) = kept p || (fails op p && kept_first ps)
 
     pub kept_head : Plans → Bool
     kept_head End = false
@@ -196,7 +196,7 @@ module _ (s : ℕ) where
 
     pub kept_policy : PlanPolicies → Bool
     kept_policy (Otherwise p) = kept p
-    kept_policy (Policy o p rest) = if same_op o Delete then kept p else kept_policy rest
+    kept_policy (Policy o p rest) = if same_op o op then kept p else kept_policy rest
 
 -- a read can show an item of the server, or copy it
 abbrev pub takes_server : Plan → Op → ℕ → Bool
@@ -208,4 +208,4 @@ is_taken plain s = takes_server plain Get s || takes_server plain Gat s || takes
 
 -- no delete is acknowledged with the server not cleared, whichever of the two is asked
 abbrev pub cleared : Plan → ℕ → Bool
-cleared plain s = not (kept s plain)
+cleared plain s = not (kept Delete s plain)

@@ -4,7 +4,7 @@ ghost use Rattle.std.specs.Prelude.{◌≡◌, ◌||◌, ◌&&◌};
 ghost use Rattle.mc_types.specs.declared.ask.Op.TheVariants.{Add};
 ghost use Rattle.route_tree.specs.Form.{routes_of};
 ghost use Rattle.route_tree.specs.At.{plain_for, plain_for_all};
-ghost use Rattle.gate_coverage.specs.Computed.{adds, fails, fails_some, fails_each, fails_last, fails_head, hits, hits_each, hits_first, hits_some, hits_head, shown, shown_each, shown_first, shown_some, shown_head, copied, copied_some, copied_first, copied_head};
+ghost use Rattle.gate_coverage.specs.Computed.{adds, kept, kept_each, kept_first, kept_head, fails, fails_some, fails_each, fails_last, fails_head, hits, hits_each, hits_first, hits_some, hits_head, shown, shown_each, shown_first, shown_some, shown_head, copied, copied_some, copied_first, copied_head};
 ghost use Rattle.gate_coverage.specs.Asked.{asks, asks_some, asks_first, asks_head};
 ghost use Rattle.gate_coverage.specs.Seen.{plan_of, all_plans_of};
 
@@ -26,6 +26,8 @@ pub struct Possible {
     pub copies: bool,
     /// A server can be asked; this says nothing of a get.
     pub asks: bool,
+    /// A delete can be acknowledged with the server not cleared; this says nothing of another operation.
+    pub keeps: bool,
 }
 
 // A reply without a call.
@@ -35,6 +37,7 @@ const SILENT: Possible = Possible {
     shows: false,
     copies: false,
     asks: false,
+    keeps: true,
 };
 
 /// What can come of the operation at the plain tree. It takes no memory.
@@ -45,6 +48,7 @@ pub fn possible_at(seen: Seen, op: Op, server: ServerId) -> Possible
     ensures shows { result.shows ≡ shown op server (plan_of seen.entry) }
     ensures copies { result.copies ≡ copied op server (plan_of seen.entry) }
     ensures asks { result.asks ≡ asks op (plan_of seen.entry) }
+    ensures keeps { result.keeps ≡ kept op server (plan_of seen.entry) }
 {
     match seen.form(op) {
         SeenForm::Server(other) => Possible {
@@ -53,10 +57,12 @@ pub fn possible_at(seen: Seen, op: Op, server: ServerId) -> Possible
             shows: other.number() == server.number(),
             copies: false,
             asks: true,
+            keeps: other.number() != server.number(),
         },
         SeenForm::Null => SILENT,
         SeenForm::Error => Possible {
             fails: true,
+            keeps: false,
             ..SILENT
         },
         SeenForm::AllSync(children) => possible_each(children, op, server),
@@ -82,7 +88,7 @@ pub fn possible_at(seen: Seen, op: Op, server: ServerId) -> Possible
 
 // A get through a cold and a warm side.
 fn warmed(cold: Possible, warm: Possible, adds: bool) -> Possible
-    ensures { result ≡ record { fails = cold.fails; hits = cold.hits || warm.hits; shows = cold.shows || warm.shows; copies = cold.copies || (warm.copies || (warm.shows && adds)); asks = cold.asks } }
+    ensures { result ≡ record { fails = cold.fails; hits = cold.hits || warm.hits; shows = cold.shows || warm.shows; copies = cold.copies || (warm.copies || (warm.shows && adds)); asks = cold.asks; keeps = cold.keeps } }
 {
     Possible {
         fails: cold.fails,
@@ -90,6 +96,7 @@ fn warmed(cold: Possible, warm: Possible, adds: bool) -> Possible
         shows: cold.shows || warm.shows,
         copies: cold.copies || (warm.copies || (warm.shows && adds)),
         asks: cold.asks,
+        keeps: cold.keeps,
     }
 }
 
@@ -101,6 +108,7 @@ pub fn possible_each(children: SeenAll, op: Op, server: ServerId) -> Possible
     ensures shows { result.shows ≡ shown_each op server (all_plans_of children.entry) }
     ensures copies { result.copies ≡ copied_some op server (all_plans_of children.entry) }
     ensures asks { result.asks ≡ asks_some op (all_plans_of children.entry) }
+    ensures keeps { result.keeps ≡ kept_each op server (all_plans_of children.entry) }
 {
     match children.parted() {
         Some(parts) => {
@@ -112,6 +120,7 @@ pub fn possible_each(children: SeenAll, op: Op, server: ServerId) -> Possible
                 shows: a.shows && b.hits,
                 copies: a.copies || b.copies,
                 asks: a.asks || b.asks,
+                keeps: a.keeps && b.keeps,
             }
         }
         None => Possible {
@@ -129,6 +138,7 @@ fn possible_first(children: SeenAll, op: Op, server: ServerId) -> Possible
     ensures shows { result.shows ≡ shown_first op server (all_plans_of children.entry) }
     ensures copies { result.copies ≡ copied_first op server (all_plans_of children.entry) }
     ensures asks { result.asks ≡ asks_first op (all_plans_of children.entry) }
+    ensures keeps { result.keeps ≡ kept_first op server (all_plans_of children.entry) }
 {
     match children.parted() {
         Some(parts) => {
@@ -140,10 +150,12 @@ fn possible_first(children: SeenAll, op: Op, server: ServerId) -> Possible
                 shows: a.shows || (a.fails && b.shows),
                 copies: a.copies || (a.fails && b.copies),
                 asks: a.asks || (a.fails && b.asks),
+                keeps: a.keeps || (a.fails && b.keeps),
             }
         }
         None => Possible {
             fails: true,
+            keeps: false,
             ..SILENT
         },
     }
@@ -157,6 +169,7 @@ fn possible_some(children: SeenAll, op: Op, server: ServerId) -> Possible
     ensures shows { result.shows ≡ shown_some op server (all_plans_of children.entry) }
     ensures copies { result.copies ≡ copied_some op server (all_plans_of children.entry) }
     ensures asks { result.asks ≡ asks_some op (all_plans_of children.entry) }
+    ensures keeps { result.keeps ≡ kept_head op server (all_plans_of children.entry) }
 {
     match children.parted() {
         Some(parts) => {
@@ -169,9 +182,13 @@ fn possible_some(children: SeenAll, op: Op, server: ServerId) -> Possible
                 shows: a.shows || b.shows,
                 copies: a.copies || b.copies,
                 asks: a.asks || b.asks,
+                keeps: a.keeps,
             }
         }
-        None => SILENT,
+        None => Possible {
+            keeps: false,
+            ..SILENT
+        },
     }
 }
 
@@ -183,10 +200,14 @@ fn possible_head(children: SeenAll, op: Op, server: ServerId) -> Possible
     ensures shows { result.shows ≡ shown_head op server (all_plans_of children.entry) }
     ensures copies { result.copies ≡ copied_head op server (all_plans_of children.entry) }
     ensures asks { result.asks ≡ asks_head op (all_plans_of children.entry) }
+    ensures keeps { result.keeps ≡ kept_head op server (all_plans_of children.entry) }
 {
     match children.parted() {
         Some(parts) => possible_at(parts.first, op, server),
-        None => SILENT,
+        None => Possible {
+            keeps: false,
+            ..SILENT
+        },
     }
 }
 

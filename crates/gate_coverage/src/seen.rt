@@ -1,7 +1,6 @@
 //! Plain trees as they stand: one that was built, or what a tree is for a hash and a text, which isn't built.
 
 ghost use Rattle.std.specs.Prelude.{◌≡◌, ℕ, ◌≤◌, MatchOption};
-ghost use Rattle.mc_types.specs.declared.ask.Op.TheVariants.{Delete};
 ghost use Rattle.route_tree.specs.Plan.{IsPlan, End};
 ghost use Rattle.route_tree.specs.Form.{policies_of, plan_policies_of};
 ghost use Rattle.route_tree.specs.PlanCode.{plan_size};
@@ -65,7 +64,7 @@ impl<'a> Seen<'a> {
         ensures shows { (s : ℕ) → shown op s (plan_of_seen_form result) ≡ shown op s (plan_of self.entry) }
         ensures copies { (s : ℕ) → copied op s (plan_of_seen_form result) ≡ copied op s (plan_of self.entry) }
         ensures asks { asks op (plan_of_seen_form result) ≡ asks op (plan_of self.entry) }
-        ensures keeps { op ≡ Delete → (s : ℕ) → kept s (plan_of_seen_form result) ≡ kept s (plan_of self.entry) }
+        ensures keeps { (s : ℕ) → kept op s (plan_of_seen_form result) ≡ kept op s (plan_of self.entry) }
         ensures size { plan_size (plan_of_seen_form result) ≤ plan_size (plan_of self.entry) }
     {
         self.left(op)

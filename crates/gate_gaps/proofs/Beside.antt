@@ -233,7 +233,7 @@ other_server false h = refl
 
 module _ (s : ℕ) where
   mutual
-    kept_acked : (p : Plan) → IsDirect Delete p → kept s p ≡ true → IsSome (acks s p)
+    kept_acked : (p : Plan) → IsDirect Delete p → kept Delete s p ≡ true → IsSome (acks s p)
     kept_acked (Server t) d h = other_server (nat_eq t s) h
     kept_acked Null d h = refl
     kept_acked Failing d h = absurd (cc)
@@ -243,21 +243,21 @@ module _ (s : ℕ) where
     kept_acked (WarmUp cold warm e) d h = absurd d
     kept_acked (ByOperation policies) d h = kept_policy_acked policies d h
 
-    kept_first_acked : (ps : Plans) → AreDirect Delete ps → kept_first s ps ≡ true → IsSome (acks_first s ps)
+    kept_first_acked : (ps : Plans) → AreDirect Delete ps → kept_first Delete s ps ≡ true → IsSome (acks_first s ps)
     kept_first_acked End d h = absurd (cc)
     kept_first_acked (More p ps) d h =
         ⊎_elim
         (λ here. or_left (acks s p) _ (kept_acked p d.0 here))
         (λ there.
-        let t = both_split (fails Delete p) (kept_first s ps) there in
+        let t = both_split (fails Delete p) (kept_first Delete s ps) there in
         or_right (acks s p) _ (cond_some (fails Delete p) _ t.0 (after_some (tries Delete p) _ (kept_first_acked ps d.1 t.1))))
-        (either_split (kept s p) (fails Delete p && kept_first s ps) h)
+        (either_split (kept Delete s p) (fails Delete p && kept_first Delete s ps) h)
 
-    kept_head_acked : (ps : Plans) → AreDirect Delete ps → kept_head s ps ≡ true → IsSome (acks_head s ps)
+    kept_head_acked : (ps : Plans) → AreDirect Delete ps → kept_head Delete s ps ≡ true → IsSome (acks_head s ps)
     kept_head_acked End d h = absurd (cc)
     kept_head_acked (More p ps) d h = kept_acked p d.0 h
 
-    kept_policy_acked : (ps : PlanPolicies) → IsPolicyDirect Delete ps → kept_policy s ps ≡ true → IsSome (acks_policy s ps)
+    kept_policy_acked : (ps : PlanPolicies) → IsPolicyDirect Delete ps → kept_policy Delete s ps ≡ true → IsSome (acks_policy s ps)
     kept_policy_acked (Otherwise p) d h = kept_acked p d h
     kept_policy_acked (Policy o p rest) d h =
         ⊎_elim
@@ -354,9 +354,9 @@ module _ (op : Op) (s : ℕ) where
 kept_is_acked : KeptIsAcked
 kept_is_acked plain s kind good direct leaves =
     ⊎_elim
-    (λ (is : kept s plain ≡ true). kept_acked s plain direct is)
-    (λ (is : kept s plain ≡ false). absurd (leaves ((cleared_is_exact plain kind s good).0 (ap not is))))
-    (bool_is (kept s plain))
+    (λ (is : kept Delete s plain ≡ true). kept_acked s plain direct is)
+    (λ (is : kept Delete s plain ≡ false). absurd (leaves ((cleared_is_exact plain kind s good).0 (ap not is))))
+    (bool_is (kept Delete s plain))
 
 taken_is_found : TakenIsFound
 taken_is_found plain op s good direct takes =

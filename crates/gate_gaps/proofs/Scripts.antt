@@ -10,16 +10,15 @@ use Rattle.mc_types.specs.Items.{Item}
 use Rattle.fresh_runs.specs.Calls.{Call, Words, outcome_of}
 use Rattle.fresh_runs.specs.Run.{Event, Begins, Calls, Replies, under_way, calls_so_far, commands_in, MayCome, Run, IsFreshByNumber}
 use Rattle.fresh_runs.specs.Protocol.{Protocol, IsStuck}
-use Rattle.fresh_runs.specs.Log as said
-use Rattle.fresh_runs.specs.Log.{Part}
+use Rattle.fresh_runs.specs.Log.{Manner, Before, Scripted, Piece, Result, Fail, Hold, Part}
 use Rattle.fresh_runs.specs.Overlap.{Front, Slot, Owner, Ticket, ticket_in, without_ticket, Entry, Feeds, Starts, Sends, Happens, Ends, Shows, Gives, is_last, part_slot, slot_in, answered_in, behind_head, run_of, front_of, queue_of, output_of, given_of, owner_of, out_of, is_dropped, IsNext, MayFollow, NothingIsLeft}
 use Rattle.fresh_runs.specs.OverlapStream.{IsReplied}
-use Rattle.fresh_runs.specs.ScriptLog.{Manner, Before, Scripted, Piece, Add, Result, Fail, Hold, At, Now, Moment, Reload, Line, Takes, Results, Does, entries_by, core_of, losses_of, made_in, named_in, script_of, said_of, fed_of, current, latest, EndsAs, IsAwaited, IsStill, IsQuiet, IsOver, IsMade, MayBe, IsScript}
+use Rattle.fresh_runs.specs.ScriptLog.{Cue, Plays, Line, Takes, Results, Does, entries_by, core_of, losses_of, made_in, named_in, script_of, said_of, fed_of, current, latest, EndsAs, IsAwaited, IsStill, IsQuiet, IsOver, IsMade, MayBe, IsScript}
 use Rattle.route_tree.specs.Each.{Each}
 use Rattle.gate_coverage.proofs.Choices.{bool_is}
 use Rattle.gate_gaps.specs.Beside.{IsTry}
 use Rattle.gate_gaps.specs.Leaking.{call_end, played}
-use Rattle.gate_gaps.specs.Scripts.{fail_lines, leaking_script, in_log, Leaks, IsOneAsk}
+use Rattle.gate_gaps.specs.Scripts.{fail_lines, leaking_script, Leaks, IsOneAsk}
 use Rattle.gate_gaps.proofs.Trying.{pick_true, pick_false}
 
 -- ---- small facts
@@ -111,7 +110,7 @@ Lines P = List (Line P (Unit {0}))
 module _ {P : Protocol} where
   abbrev fails_log : ℕ → Lines P → Lines P
   fails_log zero log = log
-  fails_log (suc n) log = Takes (Fail (suc n) Before) ∷ fails_log n log
+  fails_log (suc n) log = Takes (Plays (Fail (suc n) Before)) ∷ fails_log n log
 
   fails_core : (n : ℕ) (log : Lines P) → core_of (fails_log n log) ≡ core_of log
   fails_core zero log = refl
@@ -121,12 +120,12 @@ module _ {P : Protocol} where
   fails_made zero log = refl
   fails_made (suc n) log = fails_made n log
 
-  fails_script : (n : ℕ) (log : Lines P) → script_of (fails_log n log) ≡ script_of log ++ map in_log (fail_lines n)
+  fails_script : (n : ℕ) (log : Lines P) → script_of (fails_log n log) ≡ script_of log ++ map Plays (fail_lines n)
   fails_script zero log = sym (append-nil (script_of log))
   fails_script (suc n) log =
-      ap (λ l. l ++ Fail (suc n) Before ∷ []) (fails_script n log)
-      ∙ append_assoc (script_of log) (map in_log (fail_lines n)) (Fail (suc n) Before ∷ [])
-      ∙ ap (λ l. script_of log ++ l) (sym (map-append in_log (fail_lines n) (said.Fail (suc n) Before ∷ [])))
+      ap (λ l. l ++ Plays (Fail (suc n) Before) ∷ []) (fails_script n log)
+      ∙ append_assoc (script_of log) (map Plays (fail_lines n)) (Plays (Fail (suc n) Before) ∷ [])
+      ∙ ap (λ l. script_of log ++ l) (sym (map-append Plays (fail_lines n) (Fail (suc n) Before ∷ [])))
 
   -- the turns that they name, and the others
   fails_named : (n : ℕ) (log : Lines P) (t : ℕ) → made_in log < t → t ≤ made_in log + n → named_in (fails_log n log) t ≡ Some Before
@@ -203,29 +202,13 @@ module _ {P : Protocol} where
     -- ---- the next event may be taken up
 
     module _ (depth window : ℕ) (text_of : Ask → Answer → List ℕ) where
-      over : (late : Option (Scripted (Unit {0}))) (core : List (Entry P)) → ((s : ℕ) → out_of core s ≡ []) → IsOver (tt {0}) (λ tree. words) Bars opening version depth window text_of (λ log server key. ⊥) late core
-      over None core out = tt
-      over (Some (Piece c b)) core out = out
-      over (Some (Add c b)) core out = tt
-      over (Some (Result s)) core out = tt
-      over (Some (Fail t m)) core out = tt
-      over (Some (Hold s k b)) core out = tt
-      over (Some (At t l)) core out = tt
-      over (Some (Now l)) core out = tt
-      over (Some (Moment m)) core out = tt
-      over (Some (Reload t)) core out = tt
+      over : (late : Option (Cue (Unit {0}))) (core : List (Entry P)) → ((s : ℕ) → out_of core s ≡ []) → IsOver (tt {0}) (λ tree. words) Bars opening version depth window text_of (λ log server key. ⊥) late core
+      over (Some (Plays (Piece c b))) core out = out
+      over late core out = tt
 
-      made : (now : Option (Scripted (Unit {0}))) (core : List (Entry P)) → ((s : ℕ) → out_of core s ≡ []) → IsMade (tt {0}) (λ tree. words) Bars opening version depth window text_of (λ log server key. ⊥) now core
-      made None core out = tt
-      made (Some (Piece c b)) core out = tt
-      made (Some (Add c b)) core out = tt
-      made (Some (Result s)) core out = out s
-      made (Some (Fail t m)) core out = tt
-      made (Some (Hold s k b)) core out = tt
-      made (Some (At t l)) core out = tt
-      made (Some (Now l)) core out = tt
-      made (Some (Moment m)) core out = tt
-      made (Some (Reload t)) core out = tt
+      made : (now : Option (Cue (Unit {0}))) (core : List (Entry P)) → ((s : ℕ) → out_of core s ≡ []) → IsMade (tt {0}) (λ tree. words) Bars opening version depth window text_of (λ log server key. ⊥) now core
+      made (Some (Plays (Result s))) core out = out s
+      made now core out = tt
 
       quiet : (core : List (Entry P)) → NothingIsLeft version core → IsQuiet (tt {0}) (λ tree. words) Bars opening version depth window text_of (λ log server key. ⊥) words core
       quiet core settled = (
@@ -239,7 +222,7 @@ module _ {P : Protocol} where
         settled.given,
       )
 
-    taken : (log : Lines P) (place : P.Place) (event : Scripted (Unit {0})) → Rests log place → May log (Takes event)
+    taken : (log : Lines P) (place : P.Place) (event : Scripted) → Rests log place → May log (Takes (Plays event))
     taken log place event r depth window text_of =
         (quiet depth window text_of (core_of log) r.core.settled, over depth window text_of (latest log) (core_of log) r.core.out, made depth window text_of (current log) (core_of log) r.core.out, r.fed)
 
@@ -251,7 +234,7 @@ module _ {P : Protocol} where
           core = h.core;
           fed = λ c. h.fed c ∙ sym (append-nil (said_of (fails_log n log) c));
           lost = h.lost;
-          script = more (fails_log n log) (Takes (Fail (suc n) Before)) (taken (fails_log n log) place (Fail (suc n) Before) h) h.script;
+          script = more (fails_log n log) (Takes (Plays (Fail (suc n) Before))) (taken (fails_log n log) place (Fail (suc n) Before) h) h.script;
         }
 
     -- ---- a piece, and its command
@@ -262,17 +245,17 @@ module _ {P : Protocol} where
       way : under_way past n ≡ Some part.ask
       fed : (c : ℕ) → fed_of log c ≡ said_of log c
       lost : (t : ℕ) → losses_of log t ≡ []
-      script_is : script_of log ≡ script_of old ++ Piece 0 text ∷ []
+      script_is : script_of log ≡ script_of old ++ Plays (Piece 0 text) ∷ []
       named : (t : ℕ) → named_in log t ≡ named_in old t
-      late : latest log ≡ Some (Piece 0 text)
-      now : (current log ≡ Some (Piece 0 text)) ⊎ (current log ≡ None)
+      late : latest log ≡ Some (Plays (Piece 0 text))
+      now : (current log ≡ Some (Plays (Piece 0 text))) ⊎ (current log ≡ None)
       script : Is log
 
     -- what a piece with one command leaves
     record Done (old new : Lines P) (text : List ℕ) (next : P.Place) (past : List Event) : Type 0 where
       rests : Rests new next
       run_is : run_of (core_of new) ≡ past
-      script_is : script_of new ≡ script_of old ++ Piece 0 text ∷ []
+      script_is : script_of new ≡ script_of old ++ Plays (Piece 0 text) ∷ []
       named : (t : ℕ) → named_in new t ≡ named_in old t
 
     module _ (old : Lines P) (place : P.Place) (rests : Rests old place) (n : ℕ) (part : Part P) (text : List ℕ) (reply : Answer) (from : Option ℕ) (one : IsOneAsk P place text part.ask reply part.message part.next) (first : part.index ≡ 0) where
@@ -280,7 +263,7 @@ module _ {P : Protocol} where
       at_last = ap (λ i. nat_eq (i + 1) (length (P.asks_of part.message))) first ∙ ap (λ (l : List Ask). nat_eq 1 (length l)) one.asks
 
       abbrev l1 : Lines P
-      l1 = Takes (Piece 0 text) ∷ old
+      l1 = Takes (Plays (Piece 0 text)) ∷ old
 
       abbrev l2 : Lines P
       l2 = Does (Feeds 0 text) ∷ l1
@@ -319,7 +302,7 @@ module _ {P : Protocol} where
         now = inl refl;
         script = more l2 (Does (Starts 0 n part)) (λ depth window text_of. (tt, tt, (may, is_next, (λ m o e whose same. no_some (owner_of (core_of old) m) o (rests.core.settled.free m) e), count, rests.core.served 0)))
             (more l1 (Does (Feeds 0 text)) (λ depth window text_of. (tt, ([], ap (λ l. l ++ (text ++ [])) (rests.fed 0) ∙ ap (λ l. said_of old 0 ++ l) (append-nil text)), rests.core.served 0))
-            (more old (Takes (Piece 0 text)) (taken old place (Piece 0 text) rests) rests.script));
+            (more old (Takes (Plays (Piece 0 text))) (taken old place (Piece 0 text) rests) rests.script));
       }
 
       -- ---- a call
@@ -329,9 +312,9 @@ module _ {P : Protocol} where
         ends_as depth window text_of ask name Failed is = subst (λ m. EndsAs {P = P} (tt {0}) (λ tree. words) Bars opening version depth window text_of (λ log server key. ⊥) ask m (call_end n Failed)) (sym is) tt
         ends_as depth window text_of ask name (Answered answer) is = subst (λ m. EndsAs {P = P} (tt {0}) (λ tree. words) Bars opening version depth window text_of (λ log server key. ⊥) ask m (call_end n (Answered answer))) (sym is) tt
 
-        awaited : (depth window : ℕ) (text_of : Ask → Answer → List ℕ) (now late : Option (Scripted (Unit {0}))) (core : List (Entry P)) (server : ℕ) → ((now ≡ Some (Piece 0 text)) ⊎ (now ≡ None)) → late ≡ Some (Piece 0 text) → ((s : ℕ) → s < server → out_of core s ≡ []) → IsAwaited (tt {0}) (λ tree. words) Bars opening version depth window text_of (λ log server key. ⊥) now late core server
+        awaited : (depth window : ℕ) (text_of : Ask → Answer → List ℕ) (now late : Option (Cue (Unit {0}))) (core : List (Entry P)) (server : ℕ) → ((now ≡ Some (Plays (Piece 0 text))) ⊎ (now ≡ None)) → late ≡ Some (Plays (Piece 0 text)) → ((s : ℕ) → s < server → out_of core s ≡ []) → IsAwaited (tt {0}) (λ tree. words) Bars opening version depth window text_of (λ log server key. ⊥) now late core server
         awaited depth window text_of now late core server (inl e) f h =
-            subst (λ a. IsAwaited (tt {0}) (λ tree. words) Bars opening version depth window text_of (λ log server key. ⊥) a late core server) (sym e) (subst (λ b. IsAwaited (tt {0}) (λ tree. words) Bars opening version depth window text_of (λ log server key. ⊥) (Some (Piece 0 text)) b core server) (sym f) h)
+            subst (λ a. IsAwaited (tt {0}) (λ tree. words) Bars opening version depth window text_of (λ log server key. ⊥) a late core server) (sym e) (subst (λ b. IsAwaited (tt {0}) (λ tree. words) Bars opening version depth window text_of (λ log server key. ⊥) (Some (Plays (Piece 0 text))) b core server) (sym f) h)
         awaited depth window text_of now late core server (inr e) f h =
             subst (λ a. IsAwaited (tt {0}) (λ tree. words) Bars opening version depth window text_of (λ log server key. ⊥) a late core server) (sym e) (subst (λ b. IsAwaited (tt {0}) (λ tree. words) Bars opening version depth window text_of (λ log server key. ⊥) None b core server) (sym f) h)
 
@@ -528,7 +511,7 @@ module _ (P : Protocol) (words : Words) (Bars : ℕ → Ask → ℕ → Ask → 
   empty = []
 
   abbrev log0 : Lines P
-  log0 = Takes (Hold s key (49 ∷ [])) ∷ empty
+  log0 = Takes (Plays (Hold s key (49 ∷ []))) ∷ empty
 
   nothing : Rests words Bars opening version empty P.start
   nothing = record {
@@ -548,7 +531,7 @@ module _ (P : Protocol) (words : Words) (Bars : ℕ → Ask → ℕ → Ask → 
     core = nothing.core;
     fed = λ c. refl;
     lost = λ t. refl;
-    script = more words Bars opening version empty (Takes (Hold s key (49 ∷ []))) (taken words Bars opening version empty P.start (Hold s key (49 ∷ [])) nothing) nothing.script;
+    script = more words Bars opening version empty (Takes (Plays (Hold s key (49 ∷ [])))) (taken words Bars opening version empty P.start (Hold s key (49 ∷ [])) nothing) nothing.script;
   }
 
   abbrev log1 : Lines P
@@ -569,14 +552,14 @@ module _ (P : Protocol) (words : Words) (Bars : ℕ → Ask → ℕ → Ask → 
       (tries_named (named_in log1) delete.key (made_in log1) i front h1 (let e = i_is in omega arith) (λ t lt le. fails_named i log0 t (let z = zero1 in let a = lt in omega arith) (let z = zero1 in let a = le in omega arith)))
       (answered_named (named_in log1) (made_in log1 + length front) last a1 (λ t lt. fails_other i log0 t (let z = zero1 in let e = i_is in let a = lt in omega arith)))
 
-  script_is : ◌≡◌ {A = List (Scripted (Unit {0}))} ((((Hold s key (49 ∷ []) ∷ map in_log (fail_lines i)) ++ Piece 0 text1 ∷ []) ++ map in_log (fail_lines j)) ++ Piece 0 text2 ∷ []) (map in_log (leaking_script s key i text1 j text2))
+  script_is : ◌≡◌ {A = List (Cue (Unit {0}))} ((((Plays (Hold s key (49 ∷ [])) ∷ map Plays (fail_lines i)) ++ Plays (Piece 0 text1) ∷ []) ++ map Plays (fail_lines j)) ++ Plays (Piece 0 text2) ∷ []) (map Plays (leaking_script s key i text1 j text2))
   script_is =
-      let one = said.Hold s key (49 ∷ []) ∷ fail_lines i in
-      let two = one ++ said.Piece 0 text1 ∷ [] in
+      let one = Hold s key (49 ∷ []) ∷ fail_lines i in
+      let two = one ++ Piece 0 text1 ∷ [] in
       let three = two ++ fail_lines j in
       sym
-      (map-append in_log three (said.Piece 0 text2 ∷ [])
-      ∙ ap (λ l. l ++ Piece 0 text2 ∷ []) (map-append in_log two (fail_lines j) ∙ ap (λ l. l ++ map in_log (fail_lines j)) (map-append in_log one (said.Piece 0 text1 ∷ []))))
+      (map-append Plays three (Piece 0 text2 ∷ [])
+      ∙ ap (λ l. l ++ Plays (Piece 0 text2) ∷ []) (map-append Plays two (fail_lines j) ∙ ap (λ l. l ++ map Plays (fail_lines j)) (map-append Plays one (Piece 0 text1 ∷ []))))
 
   all_replied : (n : ℕ) → 1 ≤ n → n ≤ commands_in (shown (deleted [])) → (k : List ℕ) × (reply : Answer) × IsReplied (shown (deleted [])) n k reply
   all_replied zero low high = absurd (omega arith)
@@ -607,7 +590,7 @@ module _ (P : Protocol) (words : Words) (Bars : ℕ → Ask → ℕ → Ask → 
         log = d2.0;
         script = d2.1.rests.script;
         script_is = d2.1.script_is
-            ∙ ap (λ l. l ++ Piece 0 text2 ∷ []) (fails_script j log3 ∙ ap (λ l. l ++ map in_log (fail_lines j)) (d1.script_is ∙ ap (λ l. l ++ Piece 0 text1 ∷ []) (fails_script i log0)))
+            ∙ ap (λ l. l ++ Plays (Piece 0 text2) ∷ []) (fails_script j log3 ∙ ap (λ l. l ++ map Plays (fail_lines j)) (d1.script_is ∙ ap (λ l. l ++ Plays (Piece 0 text1) ∷ []) (fails_script i log0)))
             ∙ script_is;
         fed = d2.1.rests.fed;
         settled = d2.1.rests.core.settled;

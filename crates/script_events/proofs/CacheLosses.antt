@@ -5,7 +5,7 @@ use Rattle.mc_types.specs.Items.{Item}
 use Rattle.fresh_runs.specs.Run.{Event, Turns, Restarts, after_event}
 use Rattle.cache_server.specs.Contents.{Contents, losing, restarted}
 use Rattle.cache_server.specs.Held.{holds, IsLoss}
-use Rattle.script_events.specs.Caches.{loss_of, cache_held, plain_for, event_server, changed_at, after_loss, lost_in}
+use Rattle.script_events.specs.Caches.{loss_event, cache_held, plain_for, event_server, changed_at, after_loss, lost_in}
 use Rattle.script_events.specs.declared.servers.event.Loss.{Loss}
 use Rattle.script_events.specs.declared.servers.event.Loss.TheVariants.{Item as LostItem, Restart}
 use Rattle.script_events.proofs.Places.{held_here, held_else, by_server, loses_at, same}
@@ -30,7 +30,7 @@ cond_none true o e = e
 cond_none false o e = refl
 
 -- a server that isn't there loses nothing
-pub lost_beyond : (caches : List Contents) (loss : Loss) → length caches ≤ event_server (loss_of loss) → (s : ℕ) (k : List ℕ) → cache_held caches s k ≡ after_event (loss_of loss) (cache_held caches) s k
+pub lost_beyond : (caches : List Contents) (loss : Loss) → length caches ≤ event_server (loss_event loss) → (s : ℕ) (k : List ℕ) → cache_held caches s k ≡ after_event (loss_event loss) (cache_held caches) s k
 lost_beyond caches (LostItem server key) le s k =
     by_server (λ t. cache_held caches t k ≡ cond (nat_eq server t) (cond (bytes_eq key k) None (cache_held caches t k)) (cache_held caches t k)) server s
     (cond_none (bytes_eq key k) (cache_held caches server k) (none_beyond caches server k le) ∙ ap (λ b. cond b (cond (bytes_eq key k) None (cache_held caches server k)) (cache_held caches server k)) (sym (same server)))
@@ -56,30 +56,30 @@ lost_more (l ∷ losses) loss caches = lost_more losses loss (after_loss l cache
 
 -- ---- as the code loses it
 
-pub item_contents : (caches : List Contents) (server place : ℕ) (key : List ℕ) (loss : Loss) (x y : Contents) → loss ≡ LostItem server key → place ≡ server → place < length caches → x ≡ slice_index_or caches place x → y ≡ losing x key → slice_set caches place y ≡ after_loss (loss_of loss) caches
+pub item_contents : (caches : List Contents) (server place : ℕ) (key : List ℕ) (loss : Loss) (x y : Contents) → loss ≡ LostItem server key → place ≡ server → place < length caches → x ≡ slice_index_or caches place x → y ≡ losing x key → slice_set caches place y ≡ after_loss (loss_event loss) caches
 item_contents caches server place key loss x y is at lt got to =
-    set_is_changed (λ c. losing c key) caches place x y lt got to ∙ ap (λ p. changed_at p (λ c. losing c key) caches) at ∙ ap (λ l. after_loss (loss_of l) caches) (sym is)
+    set_is_changed (λ c. losing c key) caches place x y lt got to ∙ ap (λ p. changed_at p (λ c. losing c key) caches) at ∙ ap (λ l. after_loss (loss_event l) caches) (sym is)
 
-pub item_held : (caches : List Contents) (server place : ℕ) (key : List ℕ) (loss : Loss) (x y : Contents) → loss ≡ LostItem server key → place ≡ server → place < length caches → x ≡ slice_index_or caches place x → IsLoss (key ∷ []) x y → (s : ℕ) (k : List ℕ) → cache_held (slice_set caches place y) s k ≡ after_event (loss_of loss) (cache_held caches) s k
+pub item_held : (caches : List Contents) (server place : ℕ) (key : List ℕ) (loss : Loss) (x y : Contents) → loss ≡ LostItem server key → place ≡ server → place < length caches → x ≡ slice_index_or caches place x → IsLoss (key ∷ []) x y → (s : ℕ) (k : List ℕ) → cache_held (slice_set caches place y) s k ≡ after_event (loss_event loss) (cache_held caches) s k
 item_held caches server place key loss x y is at lt got lost s k =
-    item_lost caches place key x y lt got lost s k ∙ ap (λ p. after_event (Turns p key None) (cache_held caches) s k) at ∙ ap (λ l. after_event (loss_of l) (cache_held caches) s k) (sym is)
+    item_lost caches place key x y lt got lost s k ∙ ap (λ p. after_event (Turns p key None) (cache_held caches) s k) at ∙ ap (λ l. after_event (loss_event l) (cache_held caches) s k) (sym is)
 
-pub all_contents : (caches : List Contents) (server place : ℕ) (loss : Loss) (x y : Contents) → loss ≡ Restart server → place ≡ server → place < length caches → x ≡ slice_index_or caches place x → y ≡ restarted x → slice_set caches place y ≡ after_loss (loss_of loss) caches
+pub all_contents : (caches : List Contents) (server place : ℕ) (loss : Loss) (x y : Contents) → loss ≡ Restart server → place ≡ server → place < length caches → x ≡ slice_index_or caches place x → y ≡ restarted x → slice_set caches place y ≡ after_loss (loss_event loss) caches
 all_contents caches server place loss x y is at lt got to =
-    set_is_changed restarted caches place x y lt got to ∙ ap (λ p. changed_at p restarted caches) at ∙ ap (λ l. after_loss (loss_of l) caches) (sym is)
+    set_is_changed restarted caches place x y lt got to ∙ ap (λ p. changed_at p restarted caches) at ∙ ap (λ l. after_loss (loss_event l) caches) (sym is)
 
-pub all_held : (caches : List Contents) (server place : ℕ) (loss : Loss) (y : Contents) → loss ≡ Restart server → place ≡ server → place < length caches → ((k : List ℕ) → holds y k ≡ None) → (s : ℕ) (k : List ℕ) → cache_held (slice_set caches place y) s k ≡ after_event (loss_of loss) (cache_held caches) s k
+pub all_held : (caches : List Contents) (server place : ℕ) (loss : Loss) (y : Contents) → loss ≡ Restart server → place ≡ server → place < length caches → ((k : List ℕ) → holds y k ≡ None) → (s : ℕ) (k : List ℕ) → cache_held (slice_set caches place y) s k ≡ after_event (loss_event loss) (cache_held caches) s k
 all_held caches server place loss y is at lt none s k =
-    all_lost caches place y lt none s k ∙ ap (λ p. after_event (Restarts p) (cache_held caches) s k) at ∙ ap (λ l. after_event (loss_of l) (cache_held caches) s k) (sym is)
+    all_lost caches place y lt none s k ∙ ap (λ p. after_event (Restarts p) (cache_held caches) s k) at ∙ ap (λ l. after_event (loss_event l) (cache_held caches) s k) (sym is)
 
-place_beyond : (caches : List Contents) (loss : Loss) → length caches ≤ event_server (loss_of loss) → caches ≡ after_loss (loss_of loss) caches
-place_beyond caches loss le = changed_beyond (plain_for (loss_of loss)) caches (event_server (loss_of loss)) le
+place_beyond : (caches : List Contents) (loss : Loss) → length caches ≤ event_server (loss_event loss) → caches ≡ after_loss (loss_event loss) caches
+place_beyond caches loss le = changed_beyond (plain_for (loss_event loss)) caches (event_server (loss_event loss)) le
 
-pub beyond_contents : (caches : List Contents) (place : ℕ) (loss l : Loss) → loss ≡ l → place ≡ event_server (loss_of l) → length caches ≤ place → caches ≡ after_loss (loss_of loss) caches
-beyond_contents caches place loss l is at le = place_beyond caches l (subst (λ p. length caches ≤ p) at le) ∙ ap (λ m. after_loss (loss_of m) caches) (sym is)
+pub beyond_contents : (caches : List Contents) (place : ℕ) (loss l : Loss) → loss ≡ l → place ≡ event_server (loss_event l) → length caches ≤ place → caches ≡ after_loss (loss_event loss) caches
+beyond_contents caches place loss l is at le = place_beyond caches l (subst (λ p. length caches ≤ p) at le) ∙ ap (λ m. after_loss (loss_event m) caches) (sym is)
 
-pub beyond_held : (caches : List Contents) (place : ℕ) (loss l : Loss) → loss ≡ l → place ≡ event_server (loss_of l) → length caches ≤ place → (s : ℕ) (k : List ℕ) → cache_held caches s k ≡ after_event (loss_of loss) (cache_held caches) s k
-beyond_held caches place loss l is at le s k = lost_beyond caches l (subst (λ p. length caches ≤ p) at le) s k ∙ ap (λ m. after_event (loss_of m) (cache_held caches) s k) (sym is)
+pub beyond_held : (caches : List Contents) (place : ℕ) (loss l : Loss) → loss ≡ l → place ≡ event_server (loss_event l) → length caches ≤ place → (s : ℕ) (k : List ℕ) → cache_held caches s k ≡ after_event (loss_event loss) (cache_held caches) s k
+beyond_held caches place loss l is at le s k = lost_beyond caches l (subst (λ p. length caches ≤ p) at le) s k ∙ ap (λ m. after_event (loss_event m) (cache_held caches) s k) (sym is)
 
 changed_len : (s : ℕ) (f : Contents → Contents) (caches : List Contents) → length (changed_at s f caches) ≡ length caches
 changed_len s f [] = refl

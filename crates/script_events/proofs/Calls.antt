@@ -6,7 +6,7 @@ use Rattle.mc_types.specs.declared.ask.Ask.{Ask}
 use Rattle.mc_types.specs.declared.answer.Answer.{Answer}
 use Rattle.mc_types.specs.declared.call.Outcome.TheVariants.{Answered, Failed}
 use Rattle.fresh_runs.specs.Calls.{Read, Unread, Never}
-use Rattle.fresh_runs.specs.ScriptLog.{Before, After, Junk, Cut}
+use Rattle.fresh_runs.specs.Log.{Before, After, Junk, Cut}
 use Rattle.cache_server.specs.Contents.{Contents}
 use Rattle.cache_server.specs.Table.{Applies}
 use Rattle.cache_server.specs.Held.{holds, IsServerCall, keys_lost_by}

@@ -11,9 +11,9 @@ use Rattle.script_events.specs.declared.servers.event.Loss.{Loss}
 use Rattle.script_events.specs.declared.servers.event.Loss.TheVariants as losses
 
 -- a loss, as an event of a run
-abbrev pub loss_of : Loss → Event
-loss_of (losses.Item server key) = Turns server key None
-loss_of (losses.Restart server) = Restarts server
+abbrev pub loss_event : Loss → Event
+loss_event (losses.Item server key) = Turns server key None
+loss_event (losses.Restart server) = Restarts server
 
 -- the server of a loss
 abbrev pub loss_server : Loss → ℕ

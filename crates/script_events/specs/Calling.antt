@@ -5,7 +5,7 @@ use Rattle.mc_types.specs.declared.answer.Answer.{Answer}
 use Rattle.mc_types.specs.declared.call.Outcome.TheVariants.{Answered, Failed}
 use Rattle.fresh_runs.specs.Calls.{End, Read, Unread, Never, outcome_of}
 use Rattle.fresh_runs.specs.Protocol.{silence}
-use Rattle.fresh_runs.specs.ScriptLog.{Manner, Cut}
+use Rattle.fresh_runs.specs.Log.{Manner, Cut}
 use Rattle.fresh_runs.specs.ScriptLog as script
 use Rattle.cache_server.specs.Contents.{Contents, at_moment}
 use Rattle.cache_server.specs.Table.{Applies}

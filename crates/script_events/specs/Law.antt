@@ -9,7 +9,7 @@ use Rattle.fresh_runs.specs.Single.{FitsOutcome}
 use Rattle.fresh_runs.specs.Run.{Event, Turns}
 use Rattle.cache_server.specs.Contents.{Contents}
 use Rattle.cache_server.specs.Held.{keys_lost_by}
-use Rattle.script_events.specs.Caches.{loss_of, cache_held, lost_in}
+use Rattle.script_events.specs.Caches.{loss_event, cache_held, lost_in}
 use Rattle.script_events.specs.Found.{IsFound}
 use Rattle.script_events.specs.declared.servers.event.Made.{Made}
 use Rattle.script_events.specs.Losing.{events_of}
@@ -24,7 +24,7 @@ spills_of server (key ∷ keys) = Turns server key None ∷ spills_of server key
 
 -- the caches after the losses that are named for the next call
 abbrev pub caches_before : ScriptServers → List Contents
-caches_before servers = lost_in (map loss_of (lost_of servers (turn_of servers + 1))) (caches_of servers)
+caches_before servers = lost_in (map loss_event (lost_of servers (turn_of servers + 1))) (caches_of servers)
 
 -- which keys a server drops at a call of this end: those that have expired, and those that the call pushes out; none where it is never applied
 abbrev pub AreSpilled : ℤ → List Contents → ℕ → Ask → End → List (List ℕ) → Type 0

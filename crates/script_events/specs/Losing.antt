@@ -5,7 +5,7 @@ use Rattle.fresh_runs.specs.Run.{Event}
 use Rattle.fresh_runs.specs.Fleet.{after_losses}
 use Rattle.fresh_runs.specs.ScriptLog.{lost_by}
 use Rattle.cache_server.specs.Contents.{Contents}
-use Rattle.script_events.specs.Caches.{loss_of, cache_held, lost_in}
+use Rattle.script_events.specs.Caches.{loss_event, cache_held, lost_in}
 use Rattle.script_events.specs.declared.servers.event.Loss.{Loss}
 use Rattle.script_events.specs.declared.servers.event.Loss.TheVariants as losses
 
@@ -21,5 +21,5 @@ events_of (loss ∷ more) = events_of more ++ lost_by (loss_told loss) ∷ []
 
 -- the first of these losses comes first, and nothing else changes
 pub record AreLost (lost : List Loss) (old new : List Contents) : Type 0 where
-  pub contents : new ≡ lost_in (map loss_of lost) old
+  pub contents : new ≡ lost_in (map loss_event lost) old
   pub holds : (s : ℕ) (k : List ℕ) → cache_held new s k ≡ after_losses (events_of lost) (cache_held old) s k

@@ -3,7 +3,7 @@ use Rattle.std.specs.Prelude.{◌≡◌, ℕ, ◌+◌, ℤ, pos, List, [], lengt
 use Rattle.std.specs.Ordering.{nat_cmp}
 use Rattle.std.specs.BTreeMap.{get}
 use Rattle.mc_types.specs.declared.ask.Ask.{Ask}
-use Rattle.fresh_runs.specs.ScriptLog as log
+use Rattle.fresh_runs.specs.Log as log
 use Rattle.cache_server.specs.Contents.{Contents, empty}
 use Rattle.script_events.specs.Limits.{capacity}
 use Rattle.script_events.specs.Caches.{losses_named}

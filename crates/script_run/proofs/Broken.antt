@@ -4,6 +4,7 @@ use Rattle.std.specs.Prelude.{◌⊎◌, ◌^◌, IfErr}
 use Rattle.std.proofs.lemmas.List.{append_cancel_right}
 use Rattle.mc_types.specs.Items.{Item}
 use Rattle.fresh_runs.specs.Log.{Shown}
+use Rattle.fresh_runs.specs.ScriptLog.{event_bytes}
 use Rattle.fresh_runs.specs.Overlap.{Entry, run_of}
 use Rattle.fresh_runs.specs.OverlapStream.{stream_of}
 use Rattle.fresh_runs.specs.Run.{Event as Past, calls_in, commands_in}
@@ -33,7 +34,7 @@ use Rattle.script_run.specs.Breaking.{AreSpent, IsWithinOne, BreaksOffAfter, Sto
 use Rattle.script_run.specs.Running.{kept_of, AreOfOne, AreAskedYet, Stays, MovesFed, MovesByResults}
 use Rattle.script_run.specs.declared.driver.runner.Runner.{Runner}
 use Rattle.script_run.proofs.Breaking.{begun_spent}
-use Rattle.script_run.specs.Driving.{event_bytes, said_in, handed, AreThrough, HasNoResult, BringsSome, AreSteps, AreOutputs, IsStepPart, AreMarked, HaveMade, HasWorldOf, RunsBy, StepsPart, AreSpentIn, EndsStepped}
+use Rattle.script_run.specs.Driving.{said_in, handed, AreThrough, HasNoResult, BringsSome, AreSteps, AreOutputs, IsStepPart, AreMarked, HaveMade, HasWorldOf, RunsBy, StepsPart, AreSpentIn, EndsStepped}
 use Rattle.script_run.specs.World.{EventChanges, lost_now, World}
 use Rattle.script_run.specs.Stepping.{HasCalls, HasStory, FedBy, AreFit, AreAskedBy, GoesOnInPart, FedInPart, Befalls, BreaksOff, HandsSome, AddsRising, HasCome, HasStood, Loads, LoadsInPart, LoadsSome, StopsPart}
 use Rattle.script_run.proofs.Direct.{fresh_if_direct}

@@ -6,6 +6,7 @@ use Rattle.std.proofs.lemmas.Bool.{cases_lt}
 use Rattle.std.proofs.lemmas.List.Elements.{All-weaker, All-same, All-push, All-nil}
 use Rattle.std.proofs.lemmas.Option.{slice_get-get_or}
 use Rattle.fresh_runs.specs.Log.{Shown}
+use Rattle.fresh_runs.specs.ScriptLog.{event_bytes}
 use Rattle.fresh_runs.specs.Overlap.{Entry}
 use Rattle.fresh_runs.specs.OverlapStream.{stream_of}
 use Rattle.cache_server.specs.Contents.{empty}
@@ -27,7 +28,7 @@ use Rattle.script_run.specs.Standing.{Kept, LogStands, tree_by}
 use Rattle.script_run.specs.Laws.{NothingStands, IsBegin}
 use Rattle.script_run.specs.Running.{kept_of, MovesByResults}
 use Rattle.script_run.specs.declared.driver.runner.Runner.{Runner}
-use Rattle.script_run.specs.Driving.{event_bytes, said_in, shown_to, AreHandedInTurn, IsReached, CameSo, CameInTurn, AreMarks}
+use Rattle.script_run.specs.Driving.{said_in, shown_to, AreHandedInTurn, IsReached, CameSo, CameInTurn, AreMarks}
 use Rattle.script_run.specs.Holding.{put_all_on}
 use Rattle.script_run.specs.Stepping.{Befalls, HandsOut, HandsSome, HasCome, IsDue}
 use Rattle.script_run.proofs.Held.{held_new, opened_new}

@@ -14,7 +14,7 @@ use Rattle.script_events.specs.Caches as losing
 use Rattle.script_events.specs.declared.servers.event.Loss.{Loss}
 use Rattle.script_events.specs.declared.servers.event.Loss.TheVariants.{Item as LostItem, Restart}
 use Rattle.script_events.specs.Losing.{loss_told}
-use Rattle.fresh_runs.specs.ScriptLog.{lost_by}
+use Rattle.fresh_runs.specs.ScriptLog.{lost_by, event_bytes}
 use Rattle.fresh_runs.specs.Run.{Event as Past, after_event}
 use Rattle.script_events.specs.declared.script.Output.{Output}
 use Rattle.script_events.specs.Scripted.{Scripted, Manner, Piece, Add, Result, Fail, Hold, At, Now, Moment, loss_of, output_shown}
@@ -29,7 +29,7 @@ use Rattle.script_run.specs.Turns.{AreNextResults, MovesInTurn}
 use Rattle.script_run.proofs.DriverRunning.{given_then, in_turn_then}
 use Rattle.script_run.proofs.Served.{served_below}
 use Rattle.script_run.specs.declared.driver.runner.Runner.{Runner}
-use Rattle.script_run.specs.Driving.{event_bytes, joined_cuts, CutsCome, shown_to, IsHanded, AreHandedInTurn}
+use Rattle.script_run.specs.Driving.{joined_cuts, CutsCome, shown_to, IsHanded, AreHandedInTurn}
 use Rattle.script_run.specs.World.{EventChanges, lost_now}
 use Rattle.script_run.specs.Stepping.{FedBy, FedInTurn, FedAtOnce, IsServedBelow, FedInCuts, FedAsPiece, CutsBy, TakesTurns, AreFit, AreAskedBy, IsHeard, LeavesBy, GoesOnSaid, Befalls, IsGivenAll, HandsOut, HandsSome}
 use Rattle.wire_stream.specs.Version.{default_version}
@@ -365,8 +365,8 @@ same_loss (Restart server) = refl
 
 -- something is lost
 pub lost :
-    LossesGoOn → (a : Runner) (s t : ScriptServers) (loss : Loss) → caches_of t ≡ after_loss (losing.loss_of loss) (caches_of s)
-    → ((i : ℕ) (key : List ℕ) → cache_held (caches_of t) i key ≡ after_event (losing.loss_of loss) (cache_held (caches_of s)) i key) → t ≡ record s { caches = t.caches } → Befalls (Now (loss_of loss)) a s a t
+    LossesGoOn → (a : Runner) (s t : ScriptServers) (loss : Loss) → caches_of t ≡ after_loss (losing.loss_event loss) (caches_of s)
+    → ((i : ℕ) (key : List ℕ) → cache_held (caches_of t) i key ≡ after_event (losing.loss_event loss) (cache_held (caches_of s)) i key) → t ≡ record s { caches = t.caches } → Befalls (Now (loss_of loss)) a s a t
 lost law a s t loss caches held rest =
     changed (Now (loss_of loss)) (λ c. refl) refl (λ count before after. tt) a s t tt ((loss, refl, caches), rest)
     (λ opening tree log stands.

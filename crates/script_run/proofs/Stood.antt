@@ -6,6 +6,7 @@ use Rattle.std.proofs.lemmas.Bool.{cases_lt}
 use Rattle.std.proofs.lemmas.List.{append_cancel_right, drop-map, take-append-drop, take-append-le}
 use Rattle.mc_types.specs.Items.{Item}
 use Rattle.fresh_runs.specs.Log.{Shown}
+use Rattle.fresh_runs.specs.ScriptLog.{event_bytes}
 use Rattle.fresh_runs.specs.Overlap.{Entry, given_of}
 use Rattle.fresh_runs.specs.OverlapStream.{stream_of}
 use Rattle.fresh_runs.specs.Protocol.{IsStuck}
@@ -34,7 +35,7 @@ use Rattle.script_run.specs.Standing.{Kept, LogStands, LeavesAsMuch, tree_by}
 use Rattle.script_run.specs.Laws.{StandingSays, NothingStands, IsBegin}
 use Rattle.script_run.specs.Running.{kept_of, MovesByResults, AreStalled, KeepStalled, RunnerRests}
 use Rattle.script_run.specs.declared.driver.runner.Runner.{Runner}
-use Rattle.script_run.specs.Driving.{event_bytes, said_in, shown_to, handed, may_be_out, leaves_out, IsDoneFor, EventsAreSettled, HaveAllOutput, IsThrough, AreThrough, IsStepThrough, AreSteps, AreOutputs, IsMarked, AreMarked, one_loaded, trees_loaded, IsReached, CameSo, CameInTurn, RunsBy, DrivesStepped}
+use Rattle.script_run.specs.Driving.{said_in, shown_to, handed, may_be_out, leaves_out, IsDoneFor, EventsAreSettled, HaveAllOutput, IsThrough, AreThrough, IsStepThrough, AreSteps, AreOutputs, IsMarked, AreMarked, one_loaded, trees_loaded, IsReached, CameSo, CameInTurn, RunsBy, DrivesStepped}
 use Rattle.script_run.specs.Holding.{put_all_on}
 use Rattle.script_run.specs.Stepping.{Befalls, LeavesBy, IsHeard, RestsAfter, IsGivenAll, HandsOutAll, AddsRising, HasCome, HasStood, TakesUp, Loads}
 use Rattle.script_run.specs.World.{World}

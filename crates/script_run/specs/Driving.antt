@@ -2,6 +2,7 @@
 use Rattle.std.specs.Prelude.{◌⊎◌, ◌≡◌, ℕ, zero, suc, ◌+◌, ◌<◌, ◌≤◌, ◌^◌, Bool, true, false, List, [], ◌∷◌, ◌++◌, length, map, take, Option, Some, None, slice_get, if◌then◌else◌, nat_eq}
 use Rattle.std.specs.List.{All, AllPairs}
 use Rattle.fresh_runs.specs.Log.{Shown}
+use Rattle.fresh_runs.specs.ScriptLog.{event_bytes}
 use Rattle.mc_types.specs.declared.call.Outcome.{Outcome}
 use Rattle.fresh_runs.specs.Overlap.{Entry, Feeds, Ticket, Follows, run_of, front_of, queue_of, output_of, given_of, owner_of, out_of}
 use Rattle.fresh_runs.specs.Protocol.{IsStuck}
@@ -37,17 +38,6 @@ use Rattle.script_run.specs.World.{World}
 use Rattle.wire_stream.specs.Version.{default_version}
 
 -- ---- what a script says
-
--- the bytes that an event says for a client
-abbrev pub event_bytes : Scripted → ℕ → List ℕ
-event_bytes (Piece client bytes) c = if nat_eq client c then bytes else []
-event_bytes (Add client bytes) c = if nat_eq client c then bytes else []
-event_bytes (Result server) c = []
-event_bytes (Fail turn manner) c = []
-event_bytes (Hold server key content) c = []
-event_bytes (At turn loss) c = []
-event_bytes (Now loss) c = []
-event_bytes (Moment moment) c = []
 
 -- all bytes that events say for a client, in order
 abbrev pub said_in : List Scripted → ℕ → List ℕ

@@ -11,7 +11,7 @@ use Rattle.fresh_runs.specs.Cover.{IsCovered}
 use Rattle.fresh_runs.specs.ScriptLog.{lost_by}
 use Rattle.script_events.specs.Found.{stamp_at, stamp_given}
 use Rattle.script_events.specs.Losing.{loss_told}
-use Rattle.script_events.specs.Caches.{loss_of, after_loss}
+use Rattle.script_events.specs.Caches.{loss_event, after_loss}
 use Rattle.script_events.specs.declared.servers.event.Loss.{Loss}
 use Rattle.script_events.specs.declared.servers.event.Made.{Made}
 use Rattle.script_events.specs.Servers.{caches_of, turn_of, Answers}
@@ -105,8 +105,8 @@ ResultsGoOn =
 -- something is lost: of what servers held, nothing else goes
 pub record IsLost (loss : Loss) (old new : Kept) : Type 0 where
   pub core : new.core ≡ old.core
-  pub caches : new.caches ≡ after_loss (loss_of loss) old.caches
-  pub held : (s : ℕ) (key : List ℕ) → cache_held new.caches s key ≡ after_event (loss_of loss) (cache_held old.caches) s key
+  pub caches : new.caches ≡ after_loss (loss_event loss) old.caches
+  pub held : (s : ℕ) (key : List ℕ) → cache_held new.caches s key ≡ after_event (loss_event loss) (cache_held old.caches) s key
   pub turn : new.turn ≡ old.turn
   pub counts : CountsAsMany old new
   pub found : FoundAsMuch old new

@@ -2,6 +2,7 @@
 use Rattle.std.specs.Prelude.{◌≡◌, ◌⊎◌, ℕ, ◌<◌, ◌≤◌, Bool, true, false, List, [], ◌∷◌, ◌++◌, length, map, drop, Option, None, IfSome, slice_get}
 use Rattle.mc_types.specs.Items.{Item}
 use Rattle.fresh_runs.specs.Log.{Shown}
+use Rattle.fresh_runs.specs.ScriptLog.{event_bytes}
 use Rattle.fresh_runs.specs.Overlap.{Entry, Feeds, given_of, output_of, owner_of, run_of}
 use Rattle.fresh_runs.specs.OverlapStream.{stream_of}
 use Rattle.route_tree.specs.Route.{Route}
@@ -21,7 +22,7 @@ use Rattle.script_run.specs.Turns.{AreNextResults}
 use Rattle.script_run.specs.Running.{kept_of, IsLoadedBy, AreOfOne, AreAskedOf, AreStalled, KeepStalled, RunnerRests}
 use Rattle.script_run.specs.declared.driver.runner.Runner.{Runner}
 use Rattle.script_run.specs.World.{EventChanges, lost_now, World}
-use Rattle.script_run.specs.Driving.{event_bytes, said_in, shown_to, joined_cuts, AreCuts, IsServedFor, CutsCome, AreHandedInTurn, AreRising, AreOutputs, HaveAllOutput, trees_loaded, loaded_trees, CameInTurn, leaves_out, EventsAreSettled, AreThrough, AreSteps, AreMarked, StepsPart, AreSpentIn}
+use Rattle.script_run.specs.Driving.{said_in, shown_to, joined_cuts, AreCuts, IsServedFor, CutsCome, AreHandedInTurn, AreRising, AreOutputs, HaveAllOutput, trees_loaded, loaded_trees, CameInTurn, leaves_out, EventsAreSettled, AreThrough, AreSteps, AreMarked, StepsPart, AreSpentIn}
 use Rattle.wire_stream.specs.Version.{default_version}
 
 -- an event that asks clients nothing leaves as much to do as there was

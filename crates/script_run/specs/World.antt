@@ -1,7 +1,7 @@
 -- What a script's events and the results of calls make of the servers, one after another. Source: mcgate's own.
 use Rattle.std.specs.Prelude.{◌≡◌, ℕ, ◌+◌, pos, List, [], ◌∷◌, ◌++◌, map, Some, None, slice_get, if◌then◌else◌, nat_eq}
 use Rattle.fresh_runs.specs.Overlap.{Entry, run_of}
-use Rattle.fresh_runs.specs.ScriptLog.{lost_by}
+use Rattle.fresh_runs.specs.ScriptLog.{lost_by, losses_now}
 use Rattle.fresh_runs.specs.Run.{Event, held}
 use Rattle.cache_server.specs.Contents.{Contents}
 use Rattle.script_events.specs.Caches as losing
@@ -49,19 +49,12 @@ EventChanges (Fail turn manner) old new =
     ((t : ℕ) → named_of new t ≡ (if nat_eq (turn_of old + turn) t then Some manner else named_of old t)) × (new ≡ record old { failures = new.failures })
 EventChanges (At turn loss) old new =
     ((t : ℕ) → map loss_of (lost_of new t) ≡ (if nat_eq (turn_of old + turn) t then map loss_of (lost_of old t) ++ loss ∷ [] else map loss_of (lost_of old t))) × (new ≡ record old { losses = new.losses })
-EventChanges (Now loss) old new = ((lost : Loss) × (loss_of lost ≡ loss) × (caches_of new ≡ losing.after_loss (losing.loss_of lost) (caches_of old))) × (new ≡ record old { caches = new.caches })
+EventChanges (Now loss) old new = ((lost : Loss) × (loss_of lost ≡ loss) × (caches_of new ≡ losing.after_loss (losing.loss_event lost) (caches_of old))) × (new ≡ record old { caches = new.caches })
 EventChanges (Moment moment) old new = (moment_now new ≡ moment) × (new ≡ record old { moment = new.moment })
 
 -- what an event adds to the servers' story by itself: what is lost now
 abbrev pub lost_now : Scripted → List Event
-lost_now (Now loss) = lost_by loss ∷ []
-lost_now (Piece client bytes) = []
-lost_now (Add client bytes) = []
-lost_now (Result server) = []
-lost_now (Fail turn manner) = []
-lost_now (Hold server key content) = []
-lost_now (At turn loss) = []
-lost_now (Moment moment) = []
+lost_now event = map lost_by (losses_now event)
 
 -- these deeds led to the servers, and this is their story: each result is the answer of its server's table at that time, after what was named to be lost just before it, or it fails in the manner that was named; and nothing else befell them than what events lose, what servers drop by themselves, and calls that ended so
 abbrev pub LeadTo : List Scripted → List Deed → List Event → ScriptServers → Type 0

@@ -16,7 +16,7 @@ use Rattle.serve_links.specs.CoreSteps.{Step, Settled, Spelled, Walks, StepsAreO
 use Rattle.serve_links.specs.Dialects.{SpellsIn}
 use Rattle.serve_links.specs.Settled.{SettlesOne, SettlesEach, SettlesSome}
 use Rattle.serve_links.specs.Called.{call_in, TellsCallsOut}
-use Rattle.serve_links.specs.Talks.{SaidAsk, Talk, behind, with_answer, talk_in, IsNotAmong, AreCalled, MaySettle, IsNextAnswer, IsOrderly, IsOfServer}
+use Rattle.serve_links.specs.Talks.{SaidAsk, Talk, behind, with_first_answer, talk_in, IsNotAmong, AreCalled, MaySettle, IsNextAnswer, IsOrderly, IsOfServer}
 use Rattle.serve_links.specs.Story.{said_asks}
 use Rattle.serve_links.proofs.Called.{asks_told, walks_tell_calls}
 use Rattle.serve_links.proofs.Due.{said_both, KeepsBut, keeps_settled, keeps_twice, sent_gone, own_nowhere}
@@ -109,7 +109,7 @@ one at (call ∷ calls) bytes a answer sent' rest b s = record {
     settles :
         (past : List Step) → IsOrderly (Spelled at number ask answer spelled ∷ past) → AreCalled past at (said_asks (call ∷ calls)) → (talk_in past at).out ≡ said_asks (call ∷ calls) → MaySettle number (Spelled at number ask answer spelled ∷ past)
     settles past o called out =
-        let left : (talk_in (Spelled at number ask answer spelled ∷ past) at).out ≡ said_asks calls = ap (λ t. (if t then with_answer spelled (talk_in past at) else talk_in past at).out) (equal at) ∙ ap behind out in record {
+        let left : (talk_in (Spelled at number ask answer spelled ∷ past) at).out ≡ said_asks calls = ap (λ t. (if t then with_first_answer spelled (talk_in past at) else talk_in past at).out) (equal at) ∙ ap behind out in record {
           call = (at, call.ticket.ask);
           is_out = called.0;
           nowhere = own_nowhere (Spelled at number ask answer spelled ∷ past) at number call.ticket.ask o called.0 (subst (IsNotAmong number) (sym left) called.2);
@@ -119,7 +119,7 @@ one at (call ∷ calls) bytes a answer sent' rest b s = record {
         (past : List Step) → (talk_in past at).out ≡ said_asks (call ∷ calls)
         → talk_in (Settled number (Answered answer) ∷ Spelled at number ask answer spelled ∷ past) at ≡ record (talk_in past at) { told = (talk_in past at).told ++ spelled; out = said_asks sent' }
     told past out =
-        ap (λ t. if t then with_answer spelled (talk_in past at) else talk_in past at) (equal at)
+        ap (λ t. if t then with_first_answer spelled (talk_in past at) else talk_in past at) (equal at)
         ∙ ap (λ (l : List SaidAsk). record (talk_in past at) { told = (talk_in past at).told ++ spelled; out = l }) (ap behind out ∙ ap said_asks (sym s.settles.1))
 
 -- one and then others

@@ -12,7 +12,7 @@ use Rattle.serve_wire.proofs.Steps.{equal}
 use Rattle.serve_links.specs.declared.calls.calls.SentCall.{SentCall}
 use Rattle.serve_links.specs.CoreSteps.{Step, Opened, NotOpened, Fed, Polled, Stopped, Settled, Gave, Closed, LeftLine, Broke, Ticked, Loaded, Linked, Asked, Greeted, Spelled, Late, CameLate, Lost, StepsAreOf}
 use Rattle.serve_links.specs.Called.{call_by, call_in, due_in, clock_in, given_in, IsGivenOnce, GivesOnce, GiveOnce}
-use Rattle.serve_links.specs.Talks.{SaidAsk, Talk, behind, first_talk, with_ask, greeted, with_answer, turned_late, with_late, given_up, talk_in, IsCalledIn, IsNotAmong, AreDue, AreCalled, MayComeNext, IsOrderly, IsOfClients}
+use Rattle.serve_links.specs.Talks.{SaidAsk, Talk, behind, first_talk, with_ask, greeted, with_first_answer, turned_late, with_late, given_up, talk_in, IsCalledIn, IsNotAmong, AreDue, AreCalled, MayComeNext, IsOrderly, IsOfClients}
 use Rattle.serve_links.specs.Story.{said_asks, StayOut, LeavesCalls}
 
 none_some : {A : Type 0} {x : A} → None ≡ Some x → ⊥
@@ -419,7 +419,7 @@ out_called (Asked i number dialect ask since ∷ past) at o = asked_out past at 
 out_called (Greeted i dialect bytes ∷ past) at o =
     less_out past (Greeted i dialect bytes ∷ past) at (λ n. refl) (λ n. refl) (λ n. refl) (out_by (nat_eq i at) (talk_in past at) (greeted dialect bytes (talk_in past at)) (inl refl)) (out_called past at o.1)
 out_called (Spelled i number ask answer bytes ∷ past) at o =
-    less_out past (Spelled i number ask answer bytes ∷ past) at (λ n. refl) (λ n. refl) (λ n. refl) (out_by (nat_eq i at) (talk_in past at) (with_answer bytes (talk_in past at)) (inr (inl refl))) (out_called past at o.1)
+    less_out past (Spelled i number ask answer bytes ∷ past) at (λ n. refl) (λ n. refl) (λ n. refl) (out_by (nat_eq i at) (talk_in past at) (with_first_answer bytes (talk_in past at)) (inr (inl refl))) (out_called past at o.1)
 out_called (Late i number limit now ∷ past) at o = less_out past (Late i number limit now ∷ past) at (λ n. refl) (λ n. refl) (λ n. refl) (out_by (nat_eq i at) (talk_in past at) (turned_late (talk_in past at)) (inr (inl refl))) (out_called past at o.1)
 out_called (CameLate i number ask answer bytes ∷ past) at o =
     less_out past (CameLate i number ask answer bytes ∷ past) at (λ n. refl) (λ n. refl) (λ n. refl) (out_by (nat_eq i at) (talk_in past at) (with_late bytes (talk_in past at)) (inl refl)) (out_called past at o.1)

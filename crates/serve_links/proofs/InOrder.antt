@@ -32,7 +32,7 @@ use Rattle.core_accepted.specs.LateCores.{only_line}
 use Rattle.serve_links.specs.declared.settings.Greeting.{Greeting}
 use Rattle.serve_links.specs.CoreSteps.{Step, Opened, NotOpened, Fed, Polled, Stopped, Settled, Gave, Closed, LeftLine, Broke, Ticked, Loaded, Linked, Asked, Greeted, Spelled, Late, CameLate, Lost, Walks}
 use Rattle.serve_links.specs.Called.{TellsCallsOut}
-use Rattle.serve_links.specs.Talks.{Standing, Apart, InUse, Ending, standing_after, Talk, first_talk, with_ask, greeted, with_answer, turned_late, with_late, given_up, talk_in, MayComeNext, IsOrderly}
+use Rattle.serve_links.specs.Talks.{Standing, Apart, InUse, Ending, standing_after, Talk, first_talk, with_ask, greeted, with_first_answer, turned_late, with_late, given_up, talk_in, MayComeNext, IsOrderly}
 use Rattle.serve_links.specs.InOrder.{Move, OfProxy, OfServer, walk_of, log_of, with_commands, moments_in, out_origin, sent_over, left_with, queued_at, changed_in, conns_by, conns_after, conns_in, MayApply, AreApplied, LeadAlong, with_moves, closed_if, with_step, as_pipes, ConnectionsAreInOrder}
 use Rattle.serve_links.proofs.Called.{walks_tell_calls}
 use Rattle.serve_links.proofs.Due.{due_out}
@@ -99,7 +99,7 @@ step_keeps (Lost at why limit) past log i conns steps may was = lost (standing_a
 step_keeps (Greeted at spoken bytes) past log i conns steps may was = stays (nat_eq at i) (talk_in past i) (greeted spoken bytes (talk_in past i)) conns (pipe_of only_line steps 0 i) refl was
 step_keeps (Late at number limit now) past log i conns steps may was = stays (nat_eq at i) (talk_in past i) (turned_late (talk_in past i)) conns (pipe_of only_line steps 0 i) refl was
 step_keeps (CameLate at number ask answer bytes) past log i conns steps may was = stays (nat_eq at i) (talk_in past i) (with_late bytes (talk_in past i)) conns (pipe_of only_line steps 0 i) refl was
-step_keeps (Spelled at number ask answer bytes) past log i conns steps may was = stays (nat_eq at i) (talk_in past i) (with_answer bytes (talk_in past i)) conns (pipe_of only_line steps 0 i) refl was
+step_keeps (Spelled at number ask answer bytes) past log i conns steps may was = stays (nat_eq at i) (talk_in past i) (with_first_answer bytes (talk_in past i)) conns (pipe_of only_line steps 0 i) refl was
 step_keeps (Opened client) past log i conns steps may was = was
 step_keeps (NotOpened fault) past log i conns steps may was = was
 step_keeps (Fed client piece) past log i conns steps may was = was

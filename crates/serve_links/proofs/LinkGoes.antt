@@ -23,7 +23,7 @@ use Rattle.serve_links.specs.declared.link.Opening.TheVariants as opening
 use Rattle.serve_links.specs.declared.link.Link.{Link}
 use Rattle.serve_links.specs.declared.news.Cause.{Cause}
 use Rattle.serve_links.specs.CoreSteps.{Step, Opened, NotOpened, Fed, Polled, Stopped, Settled, Gave, Closed, LeftLine, Broke, Ticked, Loaded, Linked, Asked, Greeted, Spelled, Late, CameLate, Lost, StepsAreOf, IsOfTurn, IsFailure, IsGivingUp, IsSending, OnlyFails}
-use Rattle.serve_links.specs.Dialects.{asked_in, AnswersFirst, awaits_flush}
+use Rattle.serve_links.specs.Dialects.{asked_in, GreetsAwaited, awaits_flush}
 use Rattle.serve_links.specs.Lines.{first_asked_of, awaits_first, first_dialect, greeting_of, SameLine, KeepsLines, IsNewEnd, HasNewEnd, OpensLink, TakesGreeting, HasLearnt, Learns}
 use Rattle.serve_links.specs.Links.{FailsTo}
 use Rattle.serve_links.specs.Settled.{SettlesSome}
@@ -431,7 +431,7 @@ line_learns {at} {core} {h} x y can l = by l.told
       kinds = (tt, tt);
       own = (refl, tt);
       walks = (core, refl, refl);
-      agrees = λ past o tells a. ((subst (λ o. AnswersFirst o y.dialect takes.0) (sym (a.conn c was).awaits_is) takes.2, o), agreed past a, all_kept (1, at) h h (quiet h), λ j other n ask is. (refl, refl, refl));
+      agrees = λ past o tells a. ((subst (λ o. GreetsAwaited o y.dialect takes.0) (sym (a.conn c was).awaits_is) takes.2, o), agreed past a, all_kept (1, at) h h (quiet h), λ j other n ask is. (refl, refl, refl));
       shown = λ past o tells a shown. shown_later (step ∷ []) past h h (tt, tt) (none_since h) shown;
       shut = shut_still (quiet h) (conn_is y d is ∙ ap (λ (z : Conn). Some z.number) takes.3 ∙ sym (conn_is x c was));
       server = record { same = ap address_and_limits learnt.rest; late = (tt, tt) };

@@ -6,7 +6,7 @@ use Rattle.mc_types.specs.declared.call.Outcome.TheVariants.{Failed}
 use Rattle.core_proxy.specs.declared.note.Poll.TheVariants as polls
 use Rattle.serve_links.specs.declared.calls.calls.SentCall.{SentCall}
 use Rattle.serve_links.specs.CoreSteps.{Step, Opened, NotOpened, Fed, Polled, Stopped, Settled, Gave, Closed, LeftLine, Broke, Ticked, Loaded, Linked, Asked, Greeted, Spelled, Late, CameLate, Lost, StepsAreOf}
-use Rattle.serve_links.specs.Talks.{SaidAsk, first_talk, with_ask, greeted, with_answer, turned_late, with_late, given_up, talk_in, IsCalledIn, IsNotAmong, AreDue, AreCalled, MaySettle, MayComeNext, IsOrderly, IsOfClients, IsOfServer}
+use Rattle.serve_links.specs.Talks.{SaidAsk, first_talk, with_ask, greeted, with_first_answer, turned_late, with_late, given_up, talk_in, IsCalledIn, IsNotAmong, AreDue, AreCalled, MaySettle, MayComeNext, IsOrderly, IsOfClients, IsOfServer}
 use Rattle.serve_links.specs.Story.{TellsNone, MayGo, MayAllGo, said_asks}
 use Rattle.serve_links.specs.Called.{call_in, clock_in, given_in, GivesOnce, GiveOnce}
 use Rattle.serve_links.proofs.Due.{turned, among_first, said_both, due_out, KeepsBut, keeps_settled, own_nowhere}
@@ -234,7 +234,7 @@ talk_elsewhere at (Asked a number dialect ask since ∷ steps) own past j other 
 talk_elsewhere at (Greeted a dialect bytes ∷ steps) own past j other =
     ap (λ b. if b then greeted dialect bytes (talk_in (steps ++ past) j) else talk_in (steps ++ past) j) (ap (λ n. nat_eq n j) own.0 ∙ other) ∙ talk_elsewhere at steps own.1 past j other
 talk_elsewhere at (Spelled a number ask answer bytes ∷ steps) own past j other =
-    ap (λ b. if b then with_answer bytes (talk_in (steps ++ past) j) else talk_in (steps ++ past) j) (ap (λ n. nat_eq n j) own.0 ∙ other) ∙ talk_elsewhere at steps own.1 past j other
+    ap (λ b. if b then with_first_answer bytes (talk_in (steps ++ past) j) else talk_in (steps ++ past) j) (ap (λ n. nat_eq n j) own.0 ∙ other) ∙ talk_elsewhere at steps own.1 past j other
 talk_elsewhere at (Late a number limit now ∷ steps) own past j other =
     ap (λ b. if b then turned_late (talk_in (steps ++ past) j) else talk_in (steps ++ past) j) (ap (λ n. nat_eq n j) own.0 ∙ other) ∙ talk_elsewhere at steps own.1 past j other
 talk_elsewhere at (CameLate a number ask answer bytes ∷ steps) own past j other =

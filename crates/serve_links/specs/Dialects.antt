@@ -52,16 +52,16 @@ abbrev pub Greets : Greeting → Dialect → List ℕ → Type 0
 Greets greeting dialect bytes = (told : List ℕ) × (bytes ≡ flushed_of greeting.flushes ++ told) × TellsIn greeting.dialect dialect told
 
 -- nothing of that begins with these bytes, whatever follows them: neither a dialect that is told so, nor all that is said
-abbrev pub TellsNone : ServerDialect → List ℕ → Type 0
-TellsNone asked bytes = (more : List ℕ) (dialect : Dialect) (told rest : List ℕ) → bytes ++ more ≡ told ++ rest → ¬ TellsIn asked dialect told
+abbrev pub TellsNoDialect : ServerDialect → List ℕ → Type 0
+TellsNoDialect asked bytes = (more : List ℕ) (dialect : Dialect) (told rest : List ℕ) → bytes ++ more ≡ told ++ rest → ¬ TellsIn asked dialect told
 
 abbrev pub GreetsNone : Greeting → List ℕ → Type 0
 GreetsNone greeting bytes = (more : List ℕ) (dialect : Dialect) (said rest : List ℕ) → bytes ++ more ≡ said ++ rest → ¬ Greets greeting dialect said
 
 -- the bytes are all that it says to what it was asked first, which is still to come
-abbrev pub AnswersFirst : Option Greeting → Dialect → List ℕ → Type 0
-AnswersFirst None dialect bytes = ⊥
-AnswersFirst (Some greeting) dialect bytes = Greets greeting dialect bytes
+abbrev pub GreetsAwaited : Option Greeting → Dialect → List ℕ → Type 0
+GreetsAwaited None dialect bytes = ⊥
+GreetsAwaited (Some greeting) dialect bytes = Greets greeting dialect bytes
 
 -- whether it is still to say that it has emptied itself
 abbrev pub awaits_flush : Option Greeting → Bool
@@ -72,7 +72,7 @@ awaits_flush (Some greeting) = greeting.flushes
 abbrev pub ReadsDialect : ServerDialect → List ℕ → DialectRead → Type 0
 ReadsDialect asked bytes (reads.Told dialect used) = (used ≤ length bytes) × TellsIn asked dialect (take used bytes)
 ReadsDialect asked bytes reads.More = Unit {0}
-ReadsDialect asked bytes reads.Foreign = TellsNone asked bytes
+ReadsDialect asked bytes reads.Foreign = TellsNoDialect asked bytes
 
 abbrev pub ReadsGreeting : Greeting → List ℕ → DialectRead → Type 0
 ReadsGreeting greeting bytes (reads.Told dialect used) = (used ≤ length bytes) × Greets greeting dialect (take used bytes)

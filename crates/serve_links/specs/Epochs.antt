@@ -1,5 +1,5 @@
 -- Links that are in use no longer, or not yet. Source: mcgate's own.
-use Rattle.std.specs.Prelude.{◌≡◌, ℕ, Bool, true, List, [], None, Some, slice_get}
+use Rattle.std.specs.Prelude.{◌≡◌, Bool, [], None}
 use Rattle.serve_links.specs.declared.link.Link.{Link}
 
 -- no call goes out on it
@@ -9,10 +9,6 @@ is_retired link = link.is_retired
 -- the link, retired or not
 abbrev pub with_retired : Bool → Link → Link
 with_retired is_retired link = record link { is_retired = is_retired }
-
--- the link of this number is retired
-abbrev pub IsRetiredAt : ℕ → List Link → Type 0
-IsRetiredAt at links = (link : Link) × (slice_get links at ≡ Some link) × (is_retired link ≡ true)
 
 -- no call is out on it or waits for it, none is late, and no end of a connection is awaited
 pub record LinkIsQuiet (link : Link) : Type 0 where

@@ -12,7 +12,7 @@ use Rattle.serve_wire.specs.declared.conn.conn.Got.TheVariants as got
 use Rattle.serve_links.specs.declared.settings.ServerDialect.{ServerDialect}
 use Rattle.serve_links.specs.declared.settings.ServerDialect.TheVariants as asks
 use Rattle.serve_links.specs.declared.settings.Greeting.{Greeting}
-use Rattle.serve_links.specs.Dialects.{AnswersFirst}
+use Rattle.serve_links.specs.Dialects.{GreetsAwaited}
 use Rattle.serve_links.specs.declared.link.Opening.{Opening}
 use Rattle.serve_links.specs.declared.link.Opening.TheVariants as opening
 use Rattle.serve_links.specs.declared.link.Link.{Link}
@@ -111,7 +111,7 @@ OpensLink server dialect opening.NoMemory old new h h' = (number : ℕ) × IsUnt
 abbrev pub TakesGreeting : Option Greeting → Dialect → Option Conn → Option Conn → Type 0
 TakesGreeting awaited dialect None y = ⊥
 TakesGreeting awaited dialect (Some x) None = ⊥
-TakesGreeting awaited dialect (Some x) (Some y) = (bytes : List ℕ) × (x.held.items ≡ bytes ++ y.held.items) × AnswersFirst awaited dialect bytes × (y ≡ record x { held = y.held })
+TakesGreeting awaited dialect (Some x) (Some y) = (bytes : List ℕ) × (x.held.items ≡ bytes ++ y.held.items) × GreetsAwaited awaited dialect bytes × (y ≡ record x { held = y.held })
 
 -- calls are asked in the dialect that the server told, and what told it is held no more
 pub record HasLearnt (old new : Link) : Type 0 where

@@ -13,7 +13,7 @@ use Rattle.core_proxy.specs.declared.note.Poll.{Poll}
 use Rattle.core_proxy.specs.declared.note.Poll.TheVariants as polls
 use Rattle.serve_links.specs.declared.news.Cause.{Cause}
 use Rattle.serve_links.specs.declared.news.Cause.TheVariants as causes
-use Rattle.serve_links.specs.Dialects.{asked_in, SpellsIn, AnswersFirst, awaits_flush}
+use Rattle.serve_links.specs.Dialects.{asked_in, SpellsIn, GreetsAwaited, awaits_flush}
 use Rattle.serve_links.specs.declared.settings.Greeting.{Greeting}
 use Rattle.serve_links.specs.Lines.{first_asked_of, awaits_first, first_dialect}
 use Rattle.serve_links.specs.CoreSteps.{Step, Opened, NotOpened, Fed, Polled, Stopped, Settled, Gave, Closed, LeftLine, Broke, Ticked, Loaded, Linked, Asked, Greeted, Spelled, Late, CameLate, Lost}
@@ -79,8 +79,8 @@ abbrev pub greeted : Dialect → List ℕ → Talk → Talk
 greeted dialect bytes talk = record talk { told = talk.told ++ bytes; awaits = None; dialect = dialect }
 
 -- the first call is out no more
-abbrev pub with_answer : List ℕ → Talk → Talk
-with_answer bytes talk = record talk { told = talk.told ++ bytes; out = behind talk.out }
+abbrev pub with_first_answer : List ℕ → Talk → Talk
+with_first_answer bytes talk = record talk { told = talk.told ++ bytes; out = behind talk.out }
 
 -- the first call is late: it keeps its place
 abbrev pub turned_late : Talk → Talk
@@ -101,7 +101,7 @@ talk_after (Asked at number dialect ask since) i talk = if nat_eq at i then with
 talk_after (Greeted at dialect bytes) i talk = if nat_eq at i then greeted dialect bytes talk else talk
 talk_after (Late at number limit now) i talk = if nat_eq at i then turned_late talk else talk
 talk_after (CameLate at number ask answer bytes) i talk = if nat_eq at i then with_late bytes talk else talk
-talk_after (Spelled at number ask answer bytes) i talk = if nat_eq at i then with_answer bytes talk else talk
+talk_after (Spelled at number ask answer bytes) i talk = if nat_eq at i then with_first_answer bytes talk else talk
 talk_after (Lost at why limit) i talk = if nat_eq at i then given_up why talk else talk
 talk_after (Opened client) i talk = talk
 talk_after (NotOpened fault) i talk = talk
@@ -217,7 +217,7 @@ ComesBy number Failed past = Unit {0}
 -- their order, those that are late too, whose answers settle nothing; the first of those that are out is late once one of them, or of those that were late before it, has waited too long; a call is settled that no server has, by its answer, or as it failed; and none is given out while one of its number is out
 abbrev pub MayComeNext : Step → List Step → Type 0
 MayComeNext (Asked at number dialect ask since) past = MayBeAsked past number at dialect ask × (due_in past number ≡ Some (at, ask)) × ((talk_in past at).late ≡ []) × (awaits_flush (talk_in past at).awaits ≡ false) × (given_in past number ≤ since)
-MayComeNext (Greeted at dialect bytes) past = AnswersFirst (talk_in past at).awaits dialect bytes
+MayComeNext (Greeted at dialect bytes) past = GreetsAwaited (talk_in past at).awaits dialect bytes
 MayComeNext (Late at number limit now) past = IsFirstOut number (talk_in past at) × HasWaited limit now ((talk_in past at).late ++ (talk_in past at).out)
 MayComeNext (CameLate at number ask answer bytes) past = IsNextLate number ask answer bytes (talk_in past at)
 MayComeNext (Spelled at number ask answer bytes) past = IsNextAnswer number ask answer bytes (talk_in past at)

@@ -1,5 +1,5 @@
 -- What the ends of connections and the wire have to do with each other. Source: mcgate's own.
-use Rattle.std.specs.Prelude.{◌≡◌, false, ◌==◌, if◌then◌else◌, Some, List, [], ◌++◌, ℕ}
+use Rattle.std.specs.Prelude.{◌≡◌, false, ◌==◌, Some, List, ◌++◌, ℕ}
 use Rattle.serve_wire.specs.Events.{WireEvent, role, begin_of, delivered, taken, is_over, is_open, time}
 
 -- what came from client i is what is known of it as its input, and then what is held; what was put out for it is what it took, and then
@@ -29,14 +29,6 @@ pub record LinkAgrees (h : List WireEvent) (asked answered : ℕ → List ℕ) (
 -- a connection was begun at the address that this text names, when the clock showed this
 abbrev pub BeginAgrees : List WireEvent → List ℕ × ℕ → ℕ → Type 0
 BeginAgrees h begun conn = begin_of conn h ≡ Some begun
-
--- at one place these bytes are added, and nothing elsewhere
-abbrev pub Grows : ℕ → List ℕ → (ℕ → List ℕ) → (ℕ → List ℕ) → Type 0
-Grows at bytes old new = (j : ℕ) → new j ≡ (if at == j then old j ++ bytes else old j)
-
--- one place is empty now
-abbrev pub Empties : ℕ → (ℕ → List ℕ) → (ℕ → List ℕ) → Type 0
-Empties at old new = (j : ℕ) → new j ≡ (if at == j then [] else old j)
 
 -- what has happened is what had happened before, and perhaps more
 abbrev pub Extends : List WireEvent → List WireEvent → Type 0

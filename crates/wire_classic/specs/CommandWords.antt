@@ -1,5 +1,5 @@
 -- The command words. Source: memcached's protocol.txt, "Commands"; that the words of the meta commands aren't among them is mcgate's own.
-use Rattle.std.specs.Prelude.{true, false, List, [], ◌∷◌, ◌++◌, Option, Some, None, codes, if◌then◌else◌}
+use Rattle.std.specs.Prelude.{true, false, List, [], ◌∷◌, Option, Some, None, codes, if◌then◌else◌}
 use Rattle.std.specs.Str.{bytes_eq}
 use Rattle.mc_types.specs.declared.ask.Op.TheVariants as ops
 use Rattle.wire_parts.specs.Tests.{Word}
@@ -11,48 +11,26 @@ use Rattle.wire_parts.specs.declared.proxy_command.ProxyCommand.TheVariants as o
 abbrev pub WordEntry : Type 0
 WordEntry = Word × Verb
 
--- the command words of three letters
-abbrev pub of_three : List WordEntry
-of_three =
-    (codes "get", verbs.Retrieve false false)
-    ∷ (codes "set", verbs.Store ops.Set)
-    ∷ (codes "add", verbs.Store ops.Add)
-    ∷ (codes "cas", verbs.Cas)
-    ∷ (codes "gat", verbs.Retrieve true false)
-    ∷ []
-
--- the command words of four letters
-abbrev pub of_four : List WordEntry
-of_four =
-    (codes "gets", verbs.Retrieve false true)
-    ∷ (codes "gats", verbs.Retrieve true true)
-    ∷ (codes "incr", verbs.Count ops.Incr)
-    ∷ (codes "decr", verbs.Count ops.Decr)
-    ∷ (codes "quit", verbs.Own owns.Quit)
-    ∷ []
-
--- the one of five letters
-abbrev pub of_five : List WordEntry
-of_five = (codes "touch", verbs.Touch) ∷ []
-
--- the command words of six letters
-abbrev pub of_six : List WordEntry
-of_six =
-    (codes "delete", verbs.Delete)
-    ∷ (codes "append", verbs.Store ops.Append)
-    ∷ []
-
--- the command words of seven letters
-abbrev pub of_seven : List WordEntry
-of_seven =
-    (codes "replace", verbs.Store ops.Replace)
-    ∷ (codes "prepend", verbs.Store ops.Prepend)
-    ∷ (codes "version", verbs.Own owns.Version)
-    ∷ []
-
 -- all command words
 abbrev pub command_words : List WordEntry
-command_words = of_three ++ of_four ++ of_five ++ of_six ++ of_seven
+command_words =
+    (codes "get", verbs.Retrieve false false)
+    ∷ (codes "gets", verbs.Retrieve false true)
+    ∷ (codes "gat", verbs.Retrieve true false)
+    ∷ (codes "gats", verbs.Retrieve true true)
+    ∷ (codes "set", verbs.Store ops.Set)
+    ∷ (codes "add", verbs.Store ops.Add)
+    ∷ (codes "replace", verbs.Store ops.Replace)
+    ∷ (codes "append", verbs.Store ops.Append)
+    ∷ (codes "prepend", verbs.Store ops.Prepend)
+    ∷ (codes "cas", verbs.Cas)
+    ∷ (codes "delete", verbs.Delete)
+    ∷ (codes "touch", verbs.Touch)
+    ∷ (codes "incr", verbs.Count ops.Incr)
+    ∷ (codes "decr", verbs.Count ops.Decr)
+    ∷ (codes "version", verbs.Own owns.Version)
+    ∷ (codes "quit", verbs.Own owns.Quit)
+    ∷ []
 
 -- what a word means by such a list
 abbrev pub found_in : List WordEntry → Word → Option Verb

@@ -5,6 +5,5 @@ pub mod Grammar
 pub mod KeysOfLine
 pub mod Message
 pub mod Asks
-pub mod Stream
 pub mod Spelling
 pub mod Laws

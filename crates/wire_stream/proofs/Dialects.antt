@@ -20,7 +20,8 @@ use Rattle.wire_meta.specs.CommandWords.{verb_of}
 use Rattle.wire_stream.specs.Both.{AnyOrder, Classic, Meta, both_grammar, order_by, order_of, skip_by, skip_of}
 use Rattle.wire_stream.specs.Message.{Begins}
 use Rattle.wire_stream.proofs.Lifting.{classic_lifted, meta_lifted}
-use Rattle.wire_stream.proofs.WordLengths.{meta_length, no_classic}
+use Rattle.wire_classic.proofs.WordTable.{none_of_two}
+use Rattle.wire_stream.proofs.WordLengths.{meta_length}
 
 abbrev found_as : {A : Type 0} → parts.Message A → ℕ → Found A
 found_as message used = Some (message, used)
@@ -117,7 +118,7 @@ unknown line word ws used rest o block n is none e =
 
 raised_by : (v : Option Verb) (word : Word) (ws : List Word) (used : ℕ) (rest : List ℕ) (o : texts.Order) (block : List ℕ) (n : ℕ) → verb_of word ≡ v → in_classic (word ∷ ws) used rest ≡ Some (Served o block, n) → meaning_of both_grammar (order_by v (word ∷ ws)) (skip_by v (word ∷ ws)) used rest ≡ Some (Served (Classic o) block, n)
 raised_by None word ws used rest o block n is e = classic_lifted (texts.classic_order_of (word ∷ ws)) (texts.classic_skip_of (word ∷ ws)) used rest ∙ ap (lift_found Classic) e
-raised_by (Some v) word ws used rest o block n is e = absurd (unknown (word ∷ ws) word ws used rest o block n refl (no_classic word (meta_length word v is)) e)
+raised_by (Some v) word ws used rest o block n is e = absurd (unknown (word ∷ ws) word ws used rest o block n refl (none_of_two word (meta_length word v is)) e)
 
 classic_among : (line : List Word) (used : ℕ) (rest : List ℕ) (o : texts.Order) (block : List ℕ) (n : ℕ) → in_classic line used rest ≡ Some (Served o block, n) → among_both line used rest ≡ Some (Served (Classic o) block, n)
 classic_among [] used rest o block n e = absurd (refused_never Unknown (texts.classic_skip_of []) used o block n e)

@@ -1,10 +1,9 @@
 -- What a step of a connection changes. Source: mcgate's own.
-use Rattle.std.specs.Prelude.{◌≡◌, ℕ, Bool, true, false, ◌||◌, List, ◌++◌, drop, length}
+use Rattle.std.specs.Prelude.{◌≡◌, ℕ, Bool, true, false, ◌||◌, List, ◌++◌, drop}
 use Rattle.wire_parts.specs.declared.skip.Skip.TheVariants.{Nothing}
 use Rattle.wire_parts.specs.Stream.{Place, Stands}
 use Rattle.mc_types.specs.declared.ask.Ask.{Ask}
 use Rattle.mc_types.specs.declared.answer.Answer.{Answer}
-use Rattle.wire_stream.specs.Held.{bytes_at}
 use Rattle.wire_stream.specs.Replies.{is_failure, shown_text}
 use Rattle.wire_stream.specs.declared.connection.connection.Connection.{Connection}
 
@@ -26,7 +25,3 @@ place_after false old rest = old.stream
 pub record ShowsReply (old : Connection) (used : ℕ) (quiet last : Bool) (ask : Ask) (reply : Answer) (ended : Bool) (new : Connection) : Type 0 where
   pub ended_is : ended ≡ (is_failure reply || last)
   pub goes : (held : List ℕ) → old.stream ≡ Stands Nothing held → GoesTo old (place_after ended old (drop used held)) (shown_text quiet last ask reply) new
-
--- how many bytes are held
-abbrev pub held_len : Connection → ℕ
-held_len x = length (bytes_at x.stream)

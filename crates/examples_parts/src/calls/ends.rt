@@ -110,7 +110,7 @@ held => q"
 
 // An end, and the wire of which it is.
 #[derive(Drop)]
-struct End {
+struct WireEnd {
     alloc: Global,
     wire: Memory,
     conn: Conn,
@@ -121,10 +121,10 @@ const LIMITS: Limits = Limits { held: 8, unsent: 4 };
 // What the far end is called.
 const FAR: u32 = 1;
 
-fn make_end(alloc: Global) -> Result<End, Fail> {
+fn make_end(alloc: Global) -> Result<WireEnd, Fail> {
     let mut wire = Memory::new(alloc);
     let number = connect(alloc, &mut wire, FAR)?;
-    Ok(End {
+    Ok(WireEnd {
         alloc,
         wire,
         conn: Conn::new(alloc, number, LIMITS),
@@ -149,7 +149,7 @@ fn sent_word(sent: Sent) -> &'static str {
     }
 }
 
-impl End {
+impl WireEnd {
     fn share(&mut self, text: &str) -> Result<(), AllocError> {
         let text = plain(self.alloc, text)?;
         let body = Body::from_slice(self.alloc, text.as_bytes())?;
@@ -216,7 +216,7 @@ impl End {
     }
 }
 
-impl Stage for End {
+impl Stage for WireEnd {
     fn answer(&mut self, event: &str, _want: &str) -> Result<String, Fail> {
         let (verb, text) = cut(event);
         match verb {

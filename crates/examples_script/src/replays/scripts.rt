@@ -530,9 +530,9 @@ fn scripts_of_leaks(rt: HostRuntime) -> Result<(), Fail> {
 
 // Texts as they stand.
 #[derive(Clone, Copy)]
-struct OfTexts;
+struct OfConfigFaults;
 
-impl Printer for OfTexts {
+impl Printer for OfConfigFaults {
     fn printed(&self, alloc: Global, given: &str) -> Result<String, Fail> {
         printed(alloc, false, given)
     }
@@ -540,7 +540,7 @@ impl Printer for OfTexts {
 
 #[test]
 fn configuration_faults(rt: HostRuntime) -> Result<(), Fail> {
-    faults_hold(rt.alloc(), &OfTexts)
+    faults_hold(rt.alloc(), &OfConfigFaults)
 }
 
 fn verdict(alloc: Global, config: &str) -> Result<String, Fail> {

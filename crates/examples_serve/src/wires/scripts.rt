@@ -126,7 +126,7 @@ const LIMITS: Limits = Limits {
 
 // A wire, and the ends of its connections by their numbers.
 #[derive(Drop)]
-struct Ends<'a> {
+struct WireEnds<'a> {
     rt: &'a HostRuntime,
     wire: Memory,
     ends: Vec<Conn>,
@@ -134,8 +134,8 @@ struct Ends<'a> {
     peer: Option<Peer>,
 }
 
-fn make_ends(rt: &HostRuntime) -> Ends<'_> {
-    Ends {
+fn make_ends(rt: &HostRuntime) -> WireEnds<'_> {
+    WireEnds {
         rt,
         wire: Memory::new(rt.alloc()),
         ends: Vec::new(rt.alloc()),
@@ -236,7 +236,7 @@ pub fn put_act(alloc: Global, peer: &mut Peer, verb: &str, text: &str) -> Result
     Ok(())
 }
 
-impl Ends<'_> {
+impl WireEnds<'_> {
     // The script is whole: the far end calls, or answers.
     fn place(&mut self, verb: &str, text: &str) -> Result<(), Fail> {
         let Some(peer) = self.peer.take() else {
@@ -402,7 +402,7 @@ impl Ends<'_> {
     }
 }
 
-impl Stage for Ends<'_> {
+impl Stage for WireEnds<'_> {
     fn answer(&mut self, event: &str, _want: &str) -> Result<String, Fail> {
         let (verb, text) = cut(event);
         match verb {

@@ -366,7 +366,7 @@ pub fn remove(rt: &HostRuntime, file: &str) -> Result<(), Fail> {
 
 /// The program's loop, and how it is told to run.
 #[derive(Drop)]
-pub struct Served<'a, W: Wire> {
+pub struct ServeLoop<'a, W: Wire> {
     rt: &'a HostRuntime,
     // What has its texts.
     file: &'static str,
@@ -432,11 +432,11 @@ fn run<W: Listens>(
     }
 }
 
-impl<'a, W: Listens + Drop> Served<'a, W> {
+impl<'a, W: Listens + Drop> ServeLoop<'a, W> {
     /// One that hasn't begun. The file has its texts, and is read again after each turn; a turn in which nothing comes waits for so many
     /// milliseconds.
-    pub fn new(rt: &'a HostRuntime, file: &'static str, reload_ms: u32) -> Served<'a, W> {
-        Served {
+    pub fn new(rt: &'a HostRuntime, file: &'static str, reload_ms: u32) -> ServeLoop<'a, W> {
+        ServeLoop {
             rt,
             file,
             reload_ms,
@@ -525,7 +525,7 @@ impl<'a, W: Listens + Drop> Served<'a, W> {
 struct ScriptedLoop<'a> {
     rt: &'a HostRuntime,
     peers: Peers,
-    served: Served<'a, Memory>,
+    served: ServeLoop<'a, Memory>,
     // A host whose name leads elsewhere once it has begun.
     moved: Option<String>,
 }
@@ -534,7 +534,7 @@ fn make_scripted_loop(rt: &HostRuntime) -> ScriptedLoop<'_> {
     ScriptedLoop {
         rt,
         peers: Peers::new(rt.alloc()),
-        served: Served::new(rt, FILE, 1_000),
+        served: ServeLoop::new(rt, FILE, 1_000),
         moved: None,
     }
 }

@@ -2,7 +2,7 @@
 
 ghost use Rattle.std.specs.Prelude.{◌≡◌, ◌<◌, length, nat_abs, Some, option_map, IfOk, OnErr};
 ghost use Rattle.mc_types.specs.Asks.{IsAsk};
-ghost use Rattle.fresh_runs.specs.ScriptLog.{Cut};
+ghost use Rattle.fresh_runs.specs.Log.{Cut};
 ghost use Rattle.cache_server.specs.Contents.{at_moment};
 ghost use Rattle.script_events.specs.Caches.{changed_at};
 ghost use Rattle.script_events.specs.Servers.{manner_of};

@@ -2,7 +2,7 @@
 
 ghost use Rattle.std.specs.Prelude.{◌≡◌, ℕ, ◌++◌, ◌∷◌, [], List, if◌then◌else◌, nat_eq, length, OnOk, OnErr};
 ghost use Rattle.fresh_runs.specs.Run.{after_event};
-ghost use Rattle.script_events.specs.Caches.{loss_of, cache_held, after_loss, losses_named};
+ghost use Rattle.script_events.specs.Caches.{loss_event, cache_held, after_loss, losses_named};
 ghost use Rattle.script_events.specs.Losing.{AreLost};
 
 use crate::servers::event::Loss;
@@ -12,8 +12,8 @@ use std::collections::BTreeMap;
 
 /// One loss; a server that isn't there has nothing to lose. It takes no memory.
 pub fn lose_one(caches: &mut Vec<Cache>, loss: &Loss)
-    ensures contents { caches.new.items ≡ after_loss (loss_of loss.now) caches.old.items }
-    ensures held { (s : ℕ) (k : List ℕ) → cache_held caches.new.items s k ≡ after_event (loss_of loss.now) (cache_held caches.old.items) s k }
+    ensures contents { caches.new.items ≡ after_loss (loss_event loss.now) caches.old.items }
+    ensures held { (s : ℕ) (k : List ℕ) → cache_held caches.new.items s k ≡ after_event (loss_event loss.now) (cache_held caches.old.items) s k }
     ensures count { length caches.new.items ≡ length caches.old.items }
 {
     match loss {

@@ -5,7 +5,7 @@ ghost use Rattle.mc_types.specs.Asks.{IsAsk, data_limit};
 ghost use Rattle.fresh_runs.specs.Run.{after_event};
 ghost use Rattle.cache_server.specs.Contents.{storing_item, opening};
 ghost use Rattle.script_events.specs.Limits.{last_turn};
-ghost use Rattle.script_events.specs.Caches.{loss_of, cache_held, changed_at, after_loss};
+ghost use Rattle.script_events.specs.Caches.{loss_event, cache_held, changed_at, after_loss};
 ghost use Rattle.script_events.specs.Losing.{AreLost};
 
 use crate::servers::calling::make_call;
@@ -128,8 +128,8 @@ impl ScriptServers {
 
     /// This is lost now; of a server that isn't there nothing is lost. It takes no memory.
     pub fn lose(&mut self, loss: &Loss)
-        ensures contents { caches_of self.new ≡ after_loss (loss_of loss.now) (caches_of self.old) }
-        ensures held { (s : ℕ) (k : List ℕ) → cache_held (caches_of self.new) s k ≡ after_event (loss_of loss.now) (cache_held (caches_of self.old)) s k }
+        ensures contents { caches_of self.new ≡ after_loss (loss_event loss.now) (caches_of self.old) }
+        ensures held { (s : ℕ) (k : List ℕ) → cache_held (caches_of self.new) s k ≡ after_event (loss_event loss.now) (cache_held (caches_of self.old)) s k }
         ensures count { count_of_servers self.new ≡ count_of_servers self.old }
         ensures rest { self.new ≡ record self.old { caches = self.new.caches } }
     {

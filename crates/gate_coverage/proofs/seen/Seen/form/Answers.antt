@@ -1,10 +1,9 @@
 use Rattle.std.proofs.Common.{◌≡◌, ◌≤◌, ap, ◌∙◌, sym, subst}
-use Rattle.mc_types.specs.declared.ask.Op.{Op}
 use Rattle.route_tree.specs.Plan.{Plan}
 use Rattle.route_tree.specs.PlanCode.{plan_size}
 use Rattle.gate_coverage.specs.Computed.{fails, hits, shown, copied, kept}
 use Rattle.gate_coverage.specs.Asked.{asks}
-use Rattle.gate_coverage.specs.Seen.{plan_of, for_op}
+use Rattle.gate_coverage.specs.Seen.{plan_of}
 use Rattle.gate_coverage.proofs.Left.{left_fails, left_hits, left_shown, left_copied, left_asks, left_kept, left_size}
 use Rattle.gate_coverage.proofs.seen.Seen.form.Goals as goal
 
@@ -24,7 +23,7 @@ pub returns-clause-asks : goal.returns-clause-asks
 returns-clause-asks c = ap (asks c.args.op) c.left.ensures ∙ left_asks c.args.op (plan_of c.args.self)
 
 pub returns-clause-keeps : goal.returns-clause-keeps
-returns-clause-keeps c = λ e s. ap (kept s) c.left.ensures ∙ subst (λ (op : Op). kept s (for_op op (plan_of c.args.self)) ≡ kept s (plan_of c.args.self)) (sym e) (left_kept s (plan_of c.args.self))
+returns-clause-keeps c = λ s. ap (kept c.args.op s) c.left.ensures ∙ left_kept c.args.op s (plan_of c.args.self)
 
 pub returns-clause-size : goal.returns-clause-size
 returns-clause-size c = subst (λ (p : Plan). plan_size p ≤ plan_size (plan_of c.args.self)) (sym c.left.ensures) (left_size c.args.op (plan_of c.args.self))
