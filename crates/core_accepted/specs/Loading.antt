@@ -55,6 +55,11 @@ pub record TakesConfiguration (Counts : CoreTally → CoreTally → Type 0) (old
 abbrev pub IsTaken : ServedCore → Configuration → ℕ → ServedCore → Type 0
 IsTaken = TakesConfiguration (λ old new. new ≡ old)
 
+-- servers got places among the counts, and nothing else has changed
+pub record TakesPlaces (old new : ServedCore) : Type 0 where
+  pub places : MakesPlaces old.tally new.tally
+  pub rest : new ≡ record old { tally = new.tally }
+
 -- it has, and servers may have got places among the counts
 abbrev pub IsLoaded : ServedCore → Configuration → ℕ → ServedCore → Type 0
 IsLoaded = TakesConfiguration MakesPlaces

@@ -11,7 +11,7 @@ ghost use Rattle.core_proxy.specs.Polls.{Polls, PollFault};
 ghost use Rattle.core_proxy.specs.Settles.{FitsCall, asked, SettleFault};
 ghost use Rattle.core_accepted.specs.Logs.{IsNew, IsNewFrom, IsUnchecked, LogsGoBy, fed};
 ghost use Rattle.core_accepted.specs.Tallies.{with_client, with_refusal, MakesPlaces, nothing_done};
-ghost use Rattle.core_accepted.specs.Loading.{IsTaken, IsLoaded, RefusesLoad};
+ghost use Rattle.core_accepted.specs.Loading.{IsTaken, TakesPlaces, IsLoaded, RefusesLoad};
 ghost use Rattle.core_accepted.specs.Results.{StaysCounting, PollGoes, PollStops, IsCallAt, TakesResult, SettleStops, IsSettled};
 
 use crate::beginnings::Beginnings;
@@ -268,9 +268,19 @@ impl ServedCore {
         ensures refused { IfErr result (λ fault. RefusesLoad self.old config fault × (self.new ≡ self.old)) }
     {
         let servers = config.servers().len();
-        let number = self.take(alloc, config)?;
-        self.tally.make_places(servers);
-        Ok(number)
+        let loaded = self.take(alloc, config);
+        self.make_places(servers, &loaded);
+        loaded
+    }
+
+    // So many servers have places among the counts, if they were loaded and no memory is refused.
+    fn make_places(&mut self, servers: usize, loaded: &Result<u32, LoadFault>)
+        ensures ok { OnOk loaded.now (TakesPlaces self.old self.new) }
+        ensures err { OnErr loaded.now (self.new ≡ self.old) }
+    {
+        if loaded.is_ok() {
+            self.tally.make_places(servers);
+        }
     }
 
     // The same, but for the counts.

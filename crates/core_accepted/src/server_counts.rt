@@ -1,6 +1,6 @@
 //! Counts by server, each at the place of the server's number. A count that reaches the greatest number stays there.
 
-ghost use Rattle.std.specs.Prelude.{◌≡◌, ◌<◌, nat_lt, slice_index, length};
+ghost use Rattle.std.specs.Prelude.{◌≡◌, [], nat_lt, slice_index, length};
 ghost use Rattle.core_accepted.specs.Tallies.{more_at, AddsPlaces};
 
 use std::alloc::Global;

@@ -1,6 +1,6 @@
 //! What a core has done so far. A count that reaches the greatest number stays there.
 
-ghost use Rattle.std.specs.Prelude.{◌≡◌, ◌<◌, Bool, IfOk, OnErr};
+ghost use Rattle.std.specs.Prelude.{◌≡◌, ◌<◌, true, false, IfOk, OnErr};
 ghost use Rattle.route_tree.specs.Operation.{op_number};
 ghost use Rattle.core_accepted.specs.Tallies.{more_at, lost_unless, MakesPlaces, with_note, with_call, with_poll, is_answer, with_end, with_settling, with_opening, nothing_done, of_op, of_server};
 
