@@ -16,3 +16,4 @@ pub mod Story
 pub mod InOrder
 pub mod Counts
 pub mod Unsent
+pub mod ByServer
