@@ -19,5 +19,5 @@ mod validity;
 pub use accepted::Accepted;
 pub use gap::{Gap, Reason, Refused};
 pub use gate::check;
-pub use judging::judge;
+pub use judging::{judge, judge_by, untabled};
 pub use reloading::ReloadFault;

@@ -20,6 +20,7 @@ pub mod LinkGoes
 pub mod LateGoes
 pub mod Taking
 pub mod Away
+pub mod Stalled
 pub mod InOrder
 pub mod Alike
 pub mod LateWalks

@@ -10,6 +10,10 @@ use Rattle.serve_links.specs.declared.calls.calls.SentCall.{SentCall}
 use Rattle.serve_links.specs.declared.calls.calls.Next.{Next}
 use Rattle.serve_links.specs.declared.calls.calls.Next.TheVariants as nexts
 
+-- a count goes on by so many; at the greatest number it stays
+abbrev pub more_by : ℕ → ℕ → ℕ
+more_by more count = min (count + more) (2 ^ 64 - 1)
+
 -- the place of the first of these limits that a time doesn't pass, or the one after them all
 abbrev pub place_among : List ℕ → ℕ → ℕ
 place_among [] micros = 0

@@ -1,15 +1,17 @@
 //! One server's link: its connection, if it has one, and the calls that are out.
 
-ghost use Rattle.std.specs.Prelude.{◌≡◌, ◌≢◌, true, IfSome, IsSome, ◌+◌, ◌<◌, ◌++◌, false, ◌∷◌, [], None, length, MatchOption, IfOk, IfErr, OnOk, OnErr, option_map};
+ghost use Rattle.std.specs.Prelude.{◌≡◌, ◌≢◌, ◌⊎◌, not, true, IfSome, IsSome, ◌+◌, ◌<◌, ◌++◌, false, ◌∷◌, [], None, length, MatchOption, IfOk, IfErr, OnOk, OnErr, option_map};
 ghost use Rattle.mc_types.specs.declared.ask.Dialect.TheVariants.{Classic};
 ghost use Rattle.serve_links.specs.Links.{IsDown, CallIsTaken, vain_cause};
 ghost use Rattle.serve_links.specs.Calls.{stores_first};
 ghost use Rattle.serve_links.specs.Lateness.{HasLate, awaits_store, AwaitsLate, IsUnready, IsConnectLate, IsReadBy, may_give};
 ghost use Rattle.wire_parts.specs.Sending.{bytes_of};
 ghost use Rattle.serve_links.specs.Dialects.{awaits_flush};
+ghost use Rattle.serve_links.specs.Talks.{HasWaited};
+ghost use Rattle.serve_links.specs.Unsent.{IsStoreLate, IsServerLate, HoldsBack, TakesCalls, WaitsTooLong};
 ghost use Rattle.serve_links.specs.Epochs.{is_retired, with_retired, LinkIsQuiet};
 ghost use Rattle.serve_links.specs.Lines.{dialect_asked, flush_asked, first_asked_of, asks_dialect, awaits_first, first_dialect, greeting_of, KeepsLines, HasNewEnd, OpensLink, Learns, ended_by_read, DrainsOne, DrainsBy};
-ghost use Rattle.serve_links.specs.Story.{line_of, LineIsForeign};
+ghost use Rattle.serve_links.specs.Story.{said_asks, line_of, LineIsForeign};
 ghost use Rattle.serve_links.specs.Shut.{conn_of};
 
 use crate::calls::{LateCall, LinkCalls, SentCall};
@@ -328,16 +330,26 @@ impl Link {
     }
 
     // Whether a call is out that was late already.
-    fn has_been_late(&self) -> bool {
+    fn has_been_late(&self) -> bool
+        ensures { result ≡ true → HasWaited self.now.limits.call_ms self.now.late_since (said_asks self.now.calls.sent.items) }
+    {
         match self.calls.oldest() {
-            Some(since) => since.saturating_add(self.limits.call_ms) < self.late_since,
+            Some(since) => self.was_late(since),
             None => false,
         }
     }
 
+    // Whether a call that began then had waited too long when one was late last.
+    fn was_late(&self, since: u64) -> bool
+        ensures { result ≡ true → since + self.now.limits.call_ms < self.now.late_since }
+    {
+        since.saturating_add(self.limits.call_ms) < self.late_since
+    }
+
     // Whether a call that is out was late already, and is still awaited, as the first one is a store.
     fn is_stalled(&self) -> bool
-        ensures { result ≡ true → stores_first self.now.calls.sent.items ≡ true }
+        ensures store { result ≡ true → stores_first self.now.calls.sent.items ≡ true }
+        ensures stalled { result ≡ true → IsStoreLate self.now }
     {
         self.awaits_store() && self.has_been_late()
     }
@@ -345,6 +357,7 @@ impl Link {
     /// Whether its server is late: answers are still to come of calls that have failed, or a call that was late is still awaited.
     pub fn is_late(&self) -> bool
         ensures late { result ≡ true → AwaitsLate self.now }
+        ensures server { result ≡ true → IsServerLate self.now }
         ensures none { result ≡ false → self.now.late.items ≡ [] }
     {
         if self.awaits_late() {
@@ -354,7 +367,10 @@ impl Link {
     }
 
     /// Whether the next answer may be news: its server is late, or was, or a connection failed, and it hasn't answered since.
-    pub fn may_come_back(&self) -> bool {
+    pub fn may_come_back(&self) -> bool
+        ensures may { result ≡ true → (self.now.was_down ≡ true) ⊎ AwaitsLate self.now }
+        ensures none { result ≡ false → (self.now.was_down ≡ false) × (self.now.late.items ≡ []) }
+    {
         self.was_down || self.is_late()
     }
 
@@ -501,6 +517,7 @@ impl Link {
     /// The first of the calls that wait, if it has waited too long to go out, by the clock of calls that wait, or none goes out for now.
     pub fn next_too_late(&mut self, pace: u64) -> Option<SentCall>
         ensures waiting { MatchOption result (self.new.waiting.items ≡ self.old.waiting.items) (λ call. self.old.waiting.items ≡ call ∷ self.new.waiting.items) }
+        ensures late { IsSome result → WaitsTooLong pace self.old }
         ensures rest { self.new ≡ record self.old { waiting = self.new.waiting } }
     {
         if !self.has_waited_long(pace) {
@@ -510,7 +527,9 @@ impl Link {
     }
 
     // Whether the first of those that wait has waited so long, or its server is late.
-    fn has_waited_long(&self, pace: u64) -> bool {
+    fn has_waited_long(&self, pace: u64) -> bool
+        ensures { result ≡ true → WaitsTooLong pace self.now }
+    {
         if self.is_late() {
             return true;
         }
@@ -685,7 +704,9 @@ impl Link {
     /// Whether a call fails at once: its server is late, or the end of a connection is awaited, or no call goes out any more; or the server failed too many times in a row, and either it isn't to be tried
     /// yet, or a call tries.
     pub fn is_held_back(&self, now: u64) -> bool
-        ensures { is_retired self.now ≡ true → result ≡ true }
+        ensures back { result ≡ true → HoldsBack now self.now }
+        ensures free { result ≡ false → TakesCalls now self.now }
+        ensures retired { is_retired self.now ≡ true → result ≡ true }
     {
         if self.is_late() || self.draining.is_some() || self.is_retired {
             return true;
@@ -843,7 +864,9 @@ impl Link {
 
     /// Its connection stands. Whether it didn't before, which is news but where its server was down: that it is back is news once it has answered.
     pub fn stand(&mut self) -> bool
-        ensures { KeepsLines self.old self.new }
+        ensures lines { KeepsLines self.old self.new }
+        ensures stands { self.new.is_connected ≡ true }
+        ensures anew { result ≡ not self.old.is_connected }
     {
         if self.is_connected {
             return false;

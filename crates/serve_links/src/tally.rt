@@ -1,7 +1,8 @@
 //! What an end has done so far, beside its core. A count that reaches the greatest number stays there.
 
 ghost use Rattle.std.specs.Prelude.{◌≡◌, ◌<◌};
-ghost use Rattle.serve_links.specs.Counting.{span_of, with_answer, with_failure};
+ghost use Rattle.core_accepted.specs.Tallies.{one_more};
+ghost use Rattle.serve_links.specs.Counting.{more_by, span_of, with_answer, with_failure};
 
 use crate::news::Cause;
 use serve_clients::Departures;
@@ -99,17 +100,23 @@ impl Tally {
     }
 
     /// So many bytes were read.
-    pub fn note_read(&mut self, count: usize) {
+    pub fn note_read(&mut self, count: usize)
+        ensures { self.new ≡ record self.old { read = more_by count self.old.read } }
+    {
         self.read = self.read.saturating_add(count as u64);
     }
 
     /// There are so many bytes to send.
-    pub fn note_shown(&mut self, count: usize) {
+    pub fn note_shown(&mut self, count: usize)
+        ensures { self.new ≡ record self.old { shown = more_by count self.old.shown } }
+    {
         self.shown = self.shown.saturating_add(count as u64);
     }
 
     /// The system refused to accept a connection.
-    pub fn note_unaccepted(&mut self) {
+    pub fn note_unaccepted(&mut self)
+        ensures { self.new ≡ record self.old { unaccepted = one_more self.old.unaccepted } }
+    {
         self.unaccepted = self.unaccepted.saturating_add(1);
     }
 }

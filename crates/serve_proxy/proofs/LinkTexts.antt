@@ -1,9 +1,10 @@
 -- The texts of links as links are added, and beside those of servers.
-use Rattle.std.proofs.Common.{◌≡◌, ℕ, zero, suc, ◌+◌, ◌<◌, ◌≤◌, List, [], ◌∷◌, ◌++◌, Some, None, length, drop, refl, sym, ap, ap₂, ◌∙◌, add-one, append-nil, append_assoc, inl, inr, arith}
+use Rattle.std.proofs.Common.{◌≡◌, ℕ, zero, suc, ◌+◌, ◌<◌, ◌≤◌, List, [], ◌∷◌, ◌++◌, Some, None, Result, Ok, Err, true, false, length, drop, refl, sym, ap, ap₂, ◌∙◌, add-one, append-nil, append_assoc, inl, inr, arith}
 use Rattle.std.proofs.lemmas.Bool.{cases_eq}
-use Rattle.std.specs.Prelude.{slice_get}
+use Rattle.std.specs.Prelude.{slice_get, OnOk, is_err}
 use Rattle.serve_links.specs.declared.link.Link.{Link}
 use Rattle.serve_links.specs.Story.{texts_of}
+use Rattle.serve_proxy.specs.Bringing.{HaveOneAt, BeginWith}
 
 texts_more : (links : List Link) (link : Link) → texts_of (links ++ link ∷ []) ≡ texts_of links ++ link.text.items ∷ []
 texts_more [] link = refl
@@ -50,11 +51,11 @@ texts_end servers texts all i h was = sym (append-nil texts) ∙ ap (λ l. texts
 
 -- ---- beside the names of servers
 
-same_some : {A : Type 0} {x y : A} → Some x ≡ Some y → x ≡ y
+pub same_some : {A : Type 0} {x y : A} → Some x ≡ Some y → x ≡ y
 same_some e = cc
 
 -- a link's text is the text at its place
-text_there_of : (links : List Link) (at : ℕ) (link : Link) → slice_get links at ≡ Some link → slice_get (texts_of links) at ≡ Some link.text.items
+pub text_there_of : (links : List Link) (at : ℕ) (link : Link) → slice_get links at ≡ Some link → slice_get (texts_of links) at ≡ Some link.text.items
 text_there_of [] at link is = absurd (none_some is)
   where
     none_some : None ≡ Some link → ⊥
@@ -62,11 +63,29 @@ text_there_of [] at link is = absurd (none_some is)
 text_there_of (x ∷ links) zero link is = ap (λ (l : Link). Some l.text.items) (same_some is)
 text_there_of (x ∷ links) (suc at) link is = text_there_of links at link is
 
--- it is that of the server of its number
-pub text_of_link : (links : List Link) (servers : List (List ℕ)) (at : ℕ) (link : Link) (text : List ℕ) → slice_get links at ≡ Some link → slice_get servers at ≡ Some text → link.text.items ≡ text → slice_get (texts_of links) at ≡ slice_get servers at
-text_of_link links servers at link text there named same = text_there_of links at link there ∙ ap (λ (t : List ℕ). Some t) same ∙ sym named
+-- behind all links there is none
+pub texts_beyond : (links : List Link) (at : ℕ) → length links ≤ at → slice_get (texts_of links) at ≡ None
+texts_beyond [] at past = refl
+texts_beyond (x ∷ links) zero past = absurd (omega (arith, past))
+texts_beyond (x ∷ links) (suc at) past = texts_beyond links at (omega (arith, past))
 
-texts_as_long : (links : List Link) → length (texts_of links) ≡ length links
+-- before their end there is one
+text_within : (links : List Link) (at : ℕ) → at < length links → (text : List ℕ) × (slice_get (texts_of links) at ≡ Some text)
+text_within [] at within = absurd (omega (arith, within))
+text_within (x ∷ links) zero within = (x.text.items, refl)
+text_within (x ∷ links) (suc at) within = text_within links at (omega (arith, within))
+
+-- it is that of the server of its number
+pub of_server : (links : List Link) (servers : List (List ℕ)) (at : ℕ) (link : Link) → slice_get links at ≡ Some link → slice_get servers at ≡ Some link.text.items → HaveOneAt at (texts_of links) servers
+of_server links servers at link there named = (link.text.items, text_there_of links at link there, named)
+
+pub server_of : (links : List Link) (servers : List (List ℕ)) (at : ℕ) (link : Link) → slice_get links at ≡ Some link → HaveOneAt at (texts_of links) servers → slice_get servers at ≡ Some link.text.items
+server_of links servers at link there have = have.2 ∙ sym have.1 ∙ text_there_of links at link there
+
+pub have_one : (links : List Link) (servers : List (List ℕ)) (at : ℕ) → texts_of links ≡ servers → at < length links → HaveOneAt at (texts_of links) servers
+have_one links servers at same within = let one = text_within links at within in (one.0, one.1, ap (λ (l : List (List ℕ)). slice_get l at) (sym same) ∙ one.1)
+
+pub texts_as_long : (links : List Link) → length (texts_of links) ≡ length links
 texts_as_long [] = refl
 texts_as_long (x ∷ links) = ap (λ n. suc n) (texts_as_long links)
 
@@ -89,3 +108,26 @@ one_more_of n links servers were is = λ i within. elim (cases_eq i n) [ inl e �
 -- all are, and there are no others
 pub all_of : (n : ℕ) (links : List Link) (servers : List (List ℕ)) → AreOf n links servers → length links ≤ n → length links ≡ length servers → texts_of links ≡ servers
 all_of n links servers are whole long = same_at_each (texts_of links) servers (texts_as_long links ∙ long) (λ i within. are i (let e = texts_as_long links in omega (arith, within, whole, e)))
+
+pub as_long : (links : List Link) (servers : List (List ℕ)) → texts_of links ≡ servers → length links ≡ length servers
+as_long links servers same = sym (texts_as_long links) ∙ ap length same
+
+-- ---- links that are brought to servers
+
+pub of_ok : {A E P : Type 0} (r : Result A E) → is_err r ≡ false → OnOk r P → P
+of_ok (Ok x) fine p = p
+of_ok (Err e) fine p = absurd (true_false fine)
+  where
+    true_false : true ≡ false → ⊥
+    true_false e = cc
+
+dropped : (links : List Link) (more : List (List ℕ)) → drop (length links) (texts_of links ++ more) ≡ more
+dropped [] more = refl
+dropped (x ∷ links) more = dropped links more
+
+-- where servers begin with those that had links, all have one once the others got theirs
+pub brought : (old new : List Link) (servers : List (List ℕ)) → texts_of new ≡ texts_of old ++ drop (length old) servers → BeginWith (texts_of old) servers → texts_of new ≡ servers
+brought old new servers added begins = added ∙ ap (λ (l : List (List ℕ)). texts_of old ++ drop (length old) l) begins.1 ∙ ap (λ (l : List (List ℕ)). texts_of old ++ l) (dropped old begins.0) ∙ sym begins.1
+
+pub began_with : (old new : List Link) (servers : List (List ℕ)) → texts_of new ≡ texts_of old ++ drop (length old) servers → texts_of new ≡ servers → BeginWith (texts_of old) servers
+began_with old new servers added same = (drop (length old) servers, sym same ∙ added)

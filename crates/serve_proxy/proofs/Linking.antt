@@ -48,7 +48,9 @@ use Rattle.serve_links.proofs.Shutting.{shut_quiet}
 use Rattle.serve_proxy.specs.Ends.{link_lines, LinksTake, LinksGive, LineTakes, HoldsAwaited, HoldsAwaitedAt, IsOpenAt, AsksIn}
 use Rattle.serve_proxy.proofs.Going.{line_took, line_gave, had_quiet, numbers_kept, told_kept, set_here}
 use Rattle.std.proofs.lemmas.Option.{slice_get_read}
-use Rattle.serve_proxy.proofs.Staying.{line_lent}
+use Rattle.serve_links.specs.Unsent.{HoldsBack}
+use Rattle.serve_proxy.specs.Unsent.{IsShutAt}
+use Rattle.serve_proxy.proofs.Staying.{line_lent, none_kept}
 
 -- ---- lines
 
@@ -148,6 +150,20 @@ begun_open at dialect x y h h' opening.Begun opens is = has y.conn opens.3.conn
 begun_open at dialect x y h h' opening.NoAddress opens is = absurd cc
 begun_open at dialect x y h h' opening.Failed opens is = absurd cc
 begun_open at dialect x y h h' opening.NoMemory opens is = absurd cc
+
+-- where none was begun there is none, as before
+pub begun_not : (at : ℕ) (dialect : ServerDialect) (x y : Link) (h h' : List WireEvent) (what : Opening) → OpensLink at dialect what x y h h' → x.conn ≡ None → (what ≡ opening.Begun → ⊥) → y.conn ≡ None
+begun_not at dialect x y h h' opening.Begun opens none isnt = absurd (isnt refl)
+begun_not at dialect x y h h' opening.NoAddress opens none isnt = none_kept x.conn y.conn none opens.1.conn
+begun_not at dialect x y h h' opening.Failed opens none isnt = none_kept x.conn y.conn none opens.1.conn
+begun_not at dialect x y h h' opening.NoMemory opens none isnt = none_kept x.conn y.conn none opens.3.conn
+
+-- the link at a place has its calls fail at once, or has no connection
+pub shut_set : (links : List Link) (at now : ℕ) (y : Link) → at < length links → HoldsBack now y ⊎ (y.conn ≡ None) → IsShutAt at now (set links at y)
+shut_set links at now y within shut = subst (λ o. IfSome o (λ link. HoldsBack now link ⊎ (link.conn ≡ None))) (sym (set_here links at y within)) shut
+
+pub shut_none : (links : List Link) (at now : ℕ) → slice_get links at ≡ None → IsShutAt at now links
+shut_none links at now none = subst (λ o. IfSome o (λ link. HoldsBack now link ⊎ (link.conn ≡ None))) (sym none) tt
 
 none_isnt_some : (A : Type 0) → IsSome {T = A} None → ⊥
 none_isnt_some A e = cc

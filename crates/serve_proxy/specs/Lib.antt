@@ -9,3 +9,5 @@ pub mod Stalls
 pub mod Spares
 pub mod Budgets
 pub mod Times
+pub mod Bringing
+pub mod Unsent

@@ -1,8 +1,9 @@
 //! A call that the core makes goes to its server's link: it is written there, waits there, or has failed.
 
-ghost use Rattle.std.specs.Prelude.{◌≡◌, ◌≤◌};
+ghost use Rattle.std.specs.Prelude.{◌≡◌, ◌≤◌, ◌⊎◌, true, false};
 ghost use Rattle.serve_links.specs.Story.{AgreesSent, AgreesDue};
 ghost use Rattle.serve_proxy.specs.Ends.{AgreesTicket, AllSendFrom, AllFailOn};
+ghost use Rattle.serve_proxy.specs.Unsent.{IsShutAt, WaitsTooLongAt};
 
 use crate::failing::look_at_idle;
 use crate::sockets::Sockets;
@@ -40,7 +41,7 @@ fn send_looked<W: Wire, N: Net>(
     let at = ticket.server.number() as usize;
     let time = sockets.time;
     if !sockets.links.is_open(net, &mut sockets.wire, at, time) {
-        return refuse_call(core, sockets, id, ticket);
+        return refuse_shut(core, sockets, id, ticket);
     }
     let bulk = sockets.bulk_of(id, at, &ticket);
     let call = SentCall {
@@ -101,6 +102,14 @@ fn begin_call<W: Wire>(core: &mut ServedCore, sockets: &mut Sockets<W>, at: usiz
     }
 }
 
+// The call has failed, and never went out, as its server's link takes none.
+fn refuse_shut<W: Wire>(core: &mut ServedCore, sockets: &mut Sockets<W>, id: usize, ticket: Ticket)
+    requires { IsShutAt ticket.server sockets.old.time sockets.old.links.all.items }
+    ensures ends { AllSendFrom (AgreesDue ticket.number) W.history core.old sockets.old core.new sockets.new }
+{
+    refuse_call(core, sockets, id, ticket)
+}
+
 // The call has failed, and never went out.
 fn refuse_call<W: Wire>(core: &mut ServedCore, sockets: &mut Sockets<W>, id: usize, ticket: Ticket)
     ensures ends { AllSendFrom (AgreesDue ticket.number) W.history core.old sockets.old core.new sockets.new }
@@ -154,6 +163,7 @@ fn begin_waited<W: Wire>(
 /// Calls that have waited too long for the link fail, who waited longest first. The link stays as it is.
 pub fn fail_waited<W: Wire>(core: &mut ServedCore, sockets: &mut Sockets<W>, at: usize)
     ensures ends { AllFailOn W.history core.old sockets.old core.new sockets.new }
+    ensures late { WaitsTooLongAt at sockets.old.links.pace sockets.old.links.all.items ⊎ (core.new ≡ core.old) }
 {
     for _ in 0..sockets.links.waiting(at) {
         if !fail_next(core, sockets, at) {
@@ -165,6 +175,8 @@ pub fn fail_waited<W: Wire>(core: &mut ServedCore, sockets: &mut Sockets<W>, at:
 // The first call that waits has failed, if it has waited too long. Whether it has.
 fn fail_next<W: Wire>(core: &mut ServedCore, sockets: &mut Sockets<W>, at: usize) -> bool
     ensures ends { AllFailOn W.history core.old sockets.old core.new sockets.new }
+    ensures late { result ≡ true → WaitsTooLongAt at sockets.old.links.pace sockets.old.links.all.items }
+    ensures none { result ≡ false → core.new ≡ core.old }
 {
     match sockets.links.next_too_late(at) {
         None => false,
@@ -180,6 +192,7 @@ fn refuse_waited<W: Wire>(
     call: SentCall,
 ) -> bool
     ensures ends { AllSendFrom (AgreesSent at call) W.history core.old sockets.old core.new sockets.new }
+    ensures told { result ≡ true }
 {
     sockets.clients.end_waiting(call.client);
     refuse_call(core, sockets, call.client, call.ticket);

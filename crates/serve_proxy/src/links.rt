@@ -9,8 +9,10 @@ ghost use Rattle.serve_links.specs.Links.{calls_out};
 ghost use Rattle.serve_links.specs.Epochs.{LinkIsQuiet};
 ghost use Rattle.route_json.specs.ServerNames.{epoch_is_over};
 ghost use Rattle.serve_proxy.specs.Epochs.{share_address, HaveEnded, EpochIsInTurn, EpochsAreInTurn, Retires};
+ghost use Rattle.serve_proxy.specs.Bringing.{HaveOneAt, BeginWith, RefusesServers};
 ghost use Rattle.serve_proxy.specs.Emptying.{AddsEach, EmptiesAt};
 ghost use Rattle.serve_proxy.specs.Limiting.{value_limits, limited_by};
+ghost use Rattle.serve_proxy.specs.Unsent.{IsShutAt, TakesCallsAt, WaitsTooLongAt};
 ghost use Rattle.serde_json.specs.View.{view};
 ghost use Rattle.serve_links.specs.Story.{line_of, texts_of};
 ghost use Rattle.serve_proxy.specs.Ends.{link_lines, LinksTake, LinksGive, LineStands, LineTakes, HoldsAwaited, HoldsAwaitedAt, IsOpenAt, AsksIn, AwaitsLateAt, AwaitsNoneAt, EndsGo, AddsLines};
@@ -66,6 +68,7 @@ fn begin<W: Wire, N: Net>(
     requires { link.old.conn ≡ None }
     ensures stands { LineStands at (W.history wire.old) (W.history wire.new) link.old link.new }
     ensures conn { result ≡ Opening.Begun → IsSome link.new.conn }
+    ensures none { (result ≡ Opening.Begun → ⊥) → link.new.conn ≡ None }
 {
     match link.connect(alloc, net, wire, at, settings.server_dialect) {
         Opening::Failed => {
@@ -125,6 +128,16 @@ fn write_to(link: &mut Link, call: SentCall, now: u64) -> Result<(), SentCall>
 // When it is to be looked at if nothing comes: it fails then, or a call has waited too long for it.
 fn limit_of(link: &Link, settings: &Settings) -> Option<u64> {
     earlier(link.time_limit(settings), link.waiting_limit())
+}
+
+// Whether the link is to the server of this number.
+fn is_to(link: &Link, servers: &Servers, at: usize) -> bool
+    ensures { IsTrue result ↔ (slice_get servers.now at ≡ Some link.now.text.items) }
+{
+    match text_at(servers, at) {
+        Some(text) => link.text.as_slice() == text.as_bytes(),
+        None => false,
+    }
 }
 
 // The link gives back the room that it doesn't need now. Whether it has much that it needs.
@@ -232,19 +245,19 @@ impl Links {
         Ok(())
     }
 
-    // Whether the link of this number is to the server of this number.
+    // Whether there is a link of this number, and it is to the server of this number.
     fn is_of(&self, servers: &Servers, at: usize) -> bool
-        ensures { result ≡ true → slice_get (texts_of self.now.all.items) at ≡ slice_get servers.now at }
+        ensures { IsTrue result ↔ HaveOneAt at (texts_of self.now.all.items) servers.now }
     {
-        match (self.all.get(at), text_at(servers, at)) {
-            (Some(link), Some(text)) => link.text.as_slice() == text.as_bytes(),
-            _ => false,
+        match self.all.get(at) {
+            Some(link) => is_to(link, servers, at),
+            None => false,
         }
     }
 
     // Whether there is a link to each of these servers, in their order, and to no others.
     fn are_of(&self, servers: &Servers) -> bool
-        ensures { result ≡ true → texts_of self.now.all.items ≡ servers.now }
+        ensures { IsTrue result ↔ (texts_of self.now.all.items ≡ servers.now) }
     {
         if self.all.len() != servers.len() {
             return false;
@@ -266,9 +279,12 @@ impl Links {
 
     /// From now on there is a link to each of these servers, in their order, and to no others: those that have none yet get one, as [`Links::add`] says.
     ///
-    /// After a fault links are as they were. `OtherServers` comes where the first of these aren't the servers that have links, `NoMemory` where there was no memory for more links.
+    /// After a fault links are as they were. `OtherServers` comes where the first of these aren't the servers that have links, `NoMemory` where there was no memory for more links:
+    /// that no clause can say, so `NoMemory` may come for any servers.
     #[tactic(auto, using(crate::proofs::Growing::gone_back))]
     pub fn bring(&mut self, servers: &Servers) -> Result<(), LoadFault>
+        ensures begins { OnOk result (BeginWith (texts_of self.old.all.items) servers.now) }
+        ensures faults { IfErr result (λ fault. RefusesServers (texts_of self.old.all.items) servers.now fault) }
         ensures texts { OnOk result (texts_of self.new.all.items ≡ servers.now) }
         ensures adds { OnOk result (AddsLines self.old.all.items self.new.all.items) }
         ensures kept { OnErr result (link_lines self.new.all.items ≡ link_lines self.old.all.items) }
@@ -572,6 +588,8 @@ impl Links {
     pub fn is_open<W: Wire, N: Net>(&mut self, net: &N, wire: &mut W, at: usize, time: u64) -> bool
         ensures ends { (clients : Clients) → EndsGo (W.history wire.old) (W.history wire.new) clients clients self.old.all.items self.new.all.items }
         ensures there { result ≡ true → IsOpenAt at self.new.all.items }
+        ensures free { result ≡ true → TakesCallsAt at time self.old.all.items }
+        ensures shut { result ≡ false → IsShutAt at time self.new.all.items }
     {
         let Some(link) = self.all.get_mut(at) else {
             return false;
@@ -660,6 +678,7 @@ impl Links {
     /// The first of the calls that wait for it, if that has waited too long to go out, or none goes out for now.
     pub fn next_too_late(&mut self, at: usize) -> Option<SentCall>
         ensures call { MatchOption result (link_lines self.new.all.items ≡ link_lines self.old.all.items) (λ call. LinksGive at call self.old.all.items self.new.all.items) }
+        ensures late { IsSome result → WaitsTooLongAt at self.old.pace self.old.all.items }
     {
         let pace = self.pace;
         self.all.get_mut(at)?.next_too_late(pace)

@@ -15,6 +15,7 @@ ghost use Rattle.serve_proxy.specs.LogsGoOn.{LogsAreFresh};
 ghost use Rattle.serve_proxy.specs.Stalls.{held_by_all};
 ghost use Rattle.serve_proxy.specs.Stillness.{EndIsStill};
 ghost use Rattle.serve_proxy.specs.Beginning.{BeginsFresh, BeginsUnchecked};
+ghost use Rattle.serve_proxy.specs.Bringing.{BeginWith, RefusesBoth};
 ghost use Rattle.serve_proxy.specs.Emptying.{EmptiesAt};
 ghost use Rattle.serve_proxy.specs.Limiting.{value_limits, AreLimited};
 ghost use Rattle.serve_proxy.specs.Epochs.{EpochsAreInTurn};
@@ -172,8 +173,9 @@ impl<W: Wire> ProxyEnd<W> {
     ///
     /// Each server has the limits then that the value of the configuration says of it, and these where it says none.
     ///
-    /// After a fault the tree in use is kept, and so are the servers with their limits. `OtherServers` also comes where `servers` doesn't begin with those in use,
-    /// and `NoMemory` where there was no memory for links to new ones.
+    /// After a fault the tree in use is kept, and so are the servers with their limits. `OtherServers` also comes where `servers` doesn't begin with those in use: only there
+    /// and where the core refuses it as [`ServedCore::load`] says, and they are never loaded there. `NoMemory` also comes where there was no memory for links to new ones: what
+    /// memory is there no clause can say, so it may come in place of each other answer.
     pub fn load(
         &mut self,
         config: Config,
@@ -182,6 +184,8 @@ impl<W: Wire> ProxyEnd<W> {
         said: &Value,
     ) -> Result<u32, LoadFault>
         ensures loaded { IfOk result (λ generation. IsLoaded self.old.core.value config generation self.new.core.value) }
+        ensures begins { OnOk result (BeginWith (texts_of self.old.sockets.links.all.items) servers.now) }
+        ensures faults { IfErr result (λ fault. RefusesBoth (texts_of self.old.sockets.links.all.items) servers.now self.old.core.value config fault) }
         ensures refused { OnErr result (self.new.core.value ≡ self.old.core.value) }
         ensures ends { AllLoad W.history config servers.now (value_limits usual (view said.now)) self.old.core.value self.old.sockets self.new.core.value self.new.sockets }
         ensures wire { self.new.sockets.wire ≡ self.old.sockets.wire }

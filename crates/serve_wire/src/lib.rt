@@ -1,6 +1,14 @@
 //! The outside of a program as a trait: what is accepted, begun, read, written, ended and closed, as one history. The proxy stands on it,
 //! and cache servers, `loopback`'s far ends and `mcload`'s clients.
 //!
+//! ```text
+//! a peer --accept, connect--> Wire: sockets, of mio; or memory, of examples: each connection has a number
+//!            wait, report --> who can go on
+//!            read         --> Conn: held   --> whoever serves the peer: serve_clients, serve_links, cache_tcp, mcload
+//!            write        <-- Conn: unsent <-- its requests or replies
+//!            each call    --record--> the history, of which contracts speak
+//! ```
+//!
 //! [`Wire`] is what an end is generic over. Its ghost member `history` lists all that has happened, newest first, and each call's contract
 //! is one equation: what the call adds to it. What a connection delivered and took, whose it is and to which address it was begun are
 //! functions of that list (`specs/Events`), so a call on one connection leaves those of all others as they were. A number is never used

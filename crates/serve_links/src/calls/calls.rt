@@ -1,6 +1,6 @@
 //! The calls of one server that are out, the one that went out first in front.
 
-ghost use Rattle.std.specs.Prelude.{◌≡◌, None, [], ◌∷◌, ◌++◌, ◌↔◌, true, false, IsTrue, OnOk, OnErr, IfOk, IfErr, IfSome, length, option_map};
+ghost use Rattle.std.specs.Prelude.{◌≡◌, ◌⊎◌, None, [], ◌∷◌, ◌++◌, ◌↔◌, true, false, IsTrue, OnOk, OnErr, IfOk, IfErr, IfSome, length, option_map};
 ghost use Rattle.mc_types.specs.Asks.{IsAsk};
 ghost use Rattle.wire_stream.specs.Spelling.{spelling_of};
 ghost use Rattle.wire_parts.specs.Sending.{bytes_of};
@@ -13,6 +13,7 @@ ghost use Rattle.serve_links.specs.Calls.{IsReadFor, IsReadNext, IsFirstLate, Is
 ghost use Rattle.mc_types.specs.declared.call.Outcome.TheVariants.{Failed};
 ghost use Rattle.std.specs.List.{Any};
 ghost use Rattle.serve_links.specs.Lateness.{IsLate};
+ghost use Rattle.serve_links.specs.Unsent.{HasSince};
 ghost use Rattle.serve_links.specs.Counting.{with_first, with_first_error, with_next};
 
 use crate::calls::late_call::LateCall;
@@ -294,7 +295,8 @@ impl LinkCalls {
 
     /// When the first of those that are out began: the one in front, but where bulk calls are out, which others passed.
     pub fn oldest(&self) -> Option<u64>
-        ensures { self.now.sent.items ≡ [] → result ≡ None }
+        ensures none { self.now.sent.items ≡ [] → result ≡ None }
+        ensures one { IfSome result (λ since. HasSince since self.now.sent.items) }
     {
         match self.sent.front() {
             Some(call) if self.bulk_out == 0 => Some(call.since),
@@ -304,7 +306,9 @@ impl LinkCalls {
     }
 
     // The earliest time at which one of those that are out began, or this.
-    fn oldest_of_all(&self, since: u64) -> u64 {
+    fn oldest_of_all(&self, since: u64) -> u64
+        ensures { (result ≡ since) ⊎ HasSince result self.now.sent.items }
+    {
         let mut oldest = since;
         for call in self.sent.iter() {
             oldest = oldest.min(call.since);
@@ -420,12 +424,16 @@ impl LinkCalls {
     }
 
     /// What has become of those that were out.
-    pub fn tally(&self) -> CallTally {
+    pub fn tally(&self) -> CallTally
+        ensures { result ≡ self.now.times.tally }
+    {
         self.times.tally()
     }
 
     /// How many of those that were answered were answered by an error: `ERROR`, `CLIENT_ERROR` or `SERVER_ERROR`.
-    pub fn errors(&self) -> u64 {
+    pub fn errors(&self) -> u64
+        ensures { result ≡ self.now.times.errors }
+    {
         self.times.errors()
     }
 

@@ -1,13 +1,17 @@
-use Rattle.std.proofs.Common.{sym}
+use Rattle.std.proofs.Common.{ℕ, sym, subst}
 use Rattle.serve_links.specs.declared.calls.calls.SentCall.{SentCall}
 use Rattle.serve_links.proofs.Story.{still_called}
 use Rattle.serve_proxy.proofs.Going.{and_then, stays, called_due}
 use Rattle.serve_proxy.proofs.Staying.{stay_links}
 use Rattle.serve_proxy.proofs.Linking.{called_at}
+use Rattle.serve_proxy.specs.Unsent.{IsShutAt}
 use Rattle.serve_proxy.proofs.calls.send_looked.Goals as goal
 
+pub refuse_shut-requires : goal.refuse_shut-requires
+refuse_shut-requires g c = subst (λ (n : ℕ). IsShutAt n c.args.sockets.now.time c.is_open.new.self.all.items) c.number-at.ensures (c.is_open.ensures.shut c.if-not-is_open.true)
+
 pub returns-then-not-is_open : goal.returns-then-not-is_open
-returns-then-not-is_open g c = record { ends = and_then (still_called c.args.ticket.number c.args.ticket.server c.args.ticket.ask (c.is_open.ensures.ends c.args.sockets.now.clients c.args.core.now)) (called_due c.args.ticket.number c.args.ticket.server c.args.ticket.ask c.refuse_call.ensures.ends) }
+returns-then-not-is_open g c = record { ends = and_then (still_called c.args.ticket.number c.args.ticket.server c.args.ticket.ask (c.is_open.ensures.ends c.args.sockets.now.clients c.args.core.now)) (called_due c.args.ticket.number c.args.ticket.server c.args.ticket.ask c.refuse_shut.ensures.ends) }
 
 pub returns-then-is_full : goal.returns-then-is_full
 returns-then-is_full g c =

@@ -1,4 +1,6 @@
-use Rattle.std.proofs.Common.{refl, ◌∙◌}
+use Rattle.std.proofs.Common.{inl, inr, refl, ◌∙◌, subst}
+use Rattle.core_accepted.specs.declared.served.ServedCore.{ServedCore}
+use Rattle.core_accepted.specs.Loading.{RefusesLoad}
 use Rattle.serde_json.specs.View.{view}
 use Rattle.serve_proxy.specs.Limiting.{value_limits}
 use Rattle.serve_proxy.proofs.Growing.{gone_back, all_load, load_kept, load_from, texts_limited_by}
@@ -17,3 +19,9 @@ pub returns-in-Err-clause-ends : goal.returns-in-Err-clause-ends
 returns-in-Err-clause-ends g c =
     let old = c.args.self.now.sockets.links.all.items in
     load_from c.deref_mut.ensures.value (load_kept c.args.self.now.sockets c.go_back.new.self c.in-Err.ensures.refused.1 (gone_back old c.bring.new.self.all.items c.go_back.new.self.all.items c.len-before.result c.in_ok-bring.ensures.adds (c.len-before.ensures ∙ c.args.self.now.sockets.links.all.ok.0) c.go_back.ensures))
+
+pub returns-in_err-bring-clause-faults : goal.returns-in_err-bring-clause-faults
+returns-in_err-bring-clause-faults g c = inl c.in_err-bring.ensures.faults
+
+pub returns-in-Err-clause-faults : goal.returns-in-Err-clause-faults
+returns-in-Err-clause-faults g c = inr (c.in_ok-bring.ensures.begins, subst (λ (x : ServedCore). RefusesLoad x c.args.config c.in-Err.fault) c.deref_mut.ensures.value c.in-Err.ensures.refused.0)
