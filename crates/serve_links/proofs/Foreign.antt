@@ -1,6 +1,6 @@
 -- Links that hold what begins nothing that is to come first over their connections.
 use Rattle.std.proofs.Common.{◌≡◌, ◌≢◌, ℕ, ◌<◌, length, arith, List, [], ◌∷◌, ◌++◌, Option, Some, None, refl, sym, ap, ◌∙◌, subst}
-use Rattle.std.specs.Prelude.{IfSome, slice_index_or}
+use Rattle.std.specs.Prelude.{IfSome, slice_index_or, Result, Err}
 use Rattle.std.specs.Option.{option_map}
 use Rattle.mc_types.specs.declared.ask.Ask.{Ask}
 use Rattle.core_proxy.specs.Settles.{asked}
@@ -11,8 +11,8 @@ use Rattle.serve_wire.specs.declared.conn.conn.Conn.{Conn}
 use Rattle.serve_links.specs.declared.settings.Greeting.{Greeting}
 use Rattle.serve_links.specs.declared.calls.calls.SentCall.{SentCall}
 use Rattle.serve_links.specs.declared.calls.late_call.LateCall.{LateCall}
-use Rattle.serve_links.specs.declared.calls.calls.LateRead.{LateRead}
-use Rattle.serve_links.specs.declared.calls.calls.LateRead.TheVariants as lates
+use Rattle.serve_links.specs.declared.calls.calls.Left.{Left}
+use Rattle.serve_links.specs.declared.calls.calls.Left.TheVariants as lefts
 use Rattle.serve_links.specs.declared.link.Link.{Link}
 use Rattle.serve_links.specs.declared.news.Cause.TheVariants as causes
 use Rattle.serve_links.specs.Calls.{IsForeignToLate, PassesOver}
@@ -43,10 +43,11 @@ late_none x c was off none = is_foreign x c was (subst (λ o. IsForeign o (said_
     by (call ∷ late) is = is
 
 -- as these tell
-pub passed_none : (late : List LateCall) (bytes : List ℕ) (read : LateRead) (late' : List LateCall) (bytes' : List ℕ) → read ≡ lates.Foreign → PassesOver late bytes read late' bytes' → IsForeignToLate late' bytes'
+pub passed_none :
+    (late : List LateCall) (bytes : List ℕ) (read : Result ℕ Left) (late' : List LateCall) (bytes' : List ℕ) → read ≡ Err lefts.Foreign → PassesOver late bytes read late' bytes' → IsForeignToLate late' bytes'
 passed_none late bytes read late' bytes' is passes =
-    let p : PassesOver late bytes lates.Foreign late' bytes' = subst (λ r. PassesOver late bytes r late' bytes') is passes in
-    subst (λ (l : List LateCall). IsForeignToLate l bytes') (sym p.0) (subst (λ (l : List ℕ). IsForeignToLate late l) (sym p.1) p.2)
+    let p : PassesOver late bytes (Err lefts.Foreign) late' bytes' = subst (λ r. PassesOver late bytes r late' bytes') is passes in
+    subst (λ (l : List LateCall). IsForeignToLate l bytes') (sym p.0) (subst (λ (l : List ℕ). IsForeignToLate late l) (sym p.1) (p.2 refl))
 
 -- the first late call is in front of them
 pub first_none : (late : List LateCall) (call : LateCall) (bytes : List ℕ) → 0 < length late → call ≡ slice_index_or late 0 call → IsForeignIn call.dialect call.ask bytes → IsForeignToLate late bytes

@@ -2,7 +2,7 @@
 use Rattle.std.proofs.Common.{◌≡◌, ℕ, ◌+◌, ◌<◌, zero, suc, length, get_or, ◌⊎◌, arith, inl, Bool, true, false, if◌then◌else◌, List, [], ◌∷◌, ◌++◌, take, drop, Option, Some, None, inr, refl, sym, ap, ◌∙◌, subst, append_assoc}
 use Rattle.std.proofs.lemmas.List.{take-append-drop}
 use Rattle.std.proofs.lemmas.List.Elements.{All-nil, All-cons, All-append}
-use Rattle.std.specs.Prelude.{◌&&◌, is_some, slice_index_or, Any}
+use Rattle.std.specs.Prelude.{◌&&◌, is_some, slice_index_or, Any, Result, Ok, Err}
 use Rattle.std.specs.Option.{option_map, option_to_list}
 use Rattle.mc_types.specs.declared.ask.Dialect.{Dialect}
 use Rattle.mc_types.specs.declared.answer.Answer.{Answer}
@@ -16,8 +16,7 @@ use Rattle.core_accepted.specs.Late.{begins_stamp}
 use Rattle.core_accepted.specs.Results.{IsSettled}
 use Rattle.serve_links.specs.declared.calls.calls.SentCall.{SentCall}
 use Rattle.serve_links.specs.declared.calls.late_call.LateCall.{LateCall}
-use Rattle.serve_links.specs.declared.calls.calls.LateRead.{LateRead}
-use Rattle.serve_links.specs.declared.calls.calls.LateRead.TheVariants as lates
+use Rattle.serve_links.specs.declared.calls.calls.Left.{Left}
 use Rattle.serve_links.specs.declared.settings.Greeting.{Greeting}
 use Rattle.serve_links.specs.declared.settings.LinkLimits.{LinkLimits}
 use Rattle.serve_links.specs.declared.link.Link.{Link}
@@ -312,11 +311,9 @@ passes_none {h = h} x y c d was is place waiting awaits speaks draining sent sam
         ∙ ap (λ (l : List ℕ). let e : ℕ × List ℕ × List ℕ = (c.number, l, bytes_of c.unsent) in Some e) kept.1 ∙ sym (ap (option_map {U = ℕ × List ℕ × List ℕ} conn_state) was)
 
 pub line_passes :
-    {at : ℕ} {core : ServedCore} {h : List WireEvent} (x y : Link) (c d : Conn) (read : LateRead) → x.conn ≡ Some c → y.conn ≡ Some d → x.awaits_dialect ≡ None → server_and_opened y ≡ server_and_opened x → y.waiting.items ≡ x.waiting.items
+    {at : ℕ} {core : ServedCore} {h : List WireEvent} (x y : Link) (c d : Conn) (read : Result ℕ Left) → x.conn ≡ Some c → y.conn ≡ Some d → x.awaits_dialect ≡ None → server_and_opened y ≡ server_and_opened x → y.waiting.items ≡ x.waiting.items
     → y.awaits_dialect ≡ x.awaits_dialect → y.dialect ≡ x.dialect → y.draining ≡ x.draining → y.calls.sent.items ≡ x.calls.sent.items → d ≡ record c { held = d.held } → PassesOver x.late.items c.held.items read y.late.items d.held.items
     → LineGoes IsOfTurn at core h x core h y
-line_passes x y c d (lates.Whole used) was is off place waiting awaits speaks draining sent same passes =
+line_passes x y c d (Ok used) was is off place waiting awaits speaks draining sent same passes =
     line_throws x y c d passes.0 y.late.items passes.3.0 used was is off place waiting awaits speaks sent passes.1 refl passes.3.1 passes.2 (ap (λ (z : Conn). z.number) same) (ap (λ (z : Conn). bytes_of z.unsent) same)
-line_passes x y c d lates.More was is off place waiting awaits speaks draining sent same passes = passes_none x y c d was is place waiting awaits speaks draining sent same passes
-line_passes x y c d lates.Foreign was is off place waiting awaits speaks draining sent same passes = passes_none x y c d was is place waiting awaits speaks draining sent same (passes.0, passes.1)
-line_passes x y c d lates.NoMemory was is off place waiting awaits speaks draining sent same passes = passes_none x y c d was is place waiting awaits speaks draining sent same passes
+line_passes x y c d (Err left) was is off place waiting awaits speaks draining sent same passes = passes_none x y c d was is place waiting awaits speaks draining sent same (passes.0, passes.1)

@@ -4,16 +4,18 @@ use Rattle.std.proofs.lemmas.List.{append-nil, drop_min, take-append-drop}
 use Rattle.mc_types.specs.declared.answer.Answer.{Answer}
 use Rattle.core_accepted.specs.declared.served.ServedCore.{ServedCore}
 use Rattle.serve_links.specs.declared.calls.calls.SentCall.{SentCall}
+use Rattle.serve_links.specs.declared.calls.calls.Left.{Left}
+use Rattle.serve_links.specs.declared.calls.calls.Left.TheVariants as lefts
 use Rattle.serve_links.specs.declared.calls.calls.Next.{Next}
 use Rattle.serve_links.specs.declared.calls.calls.Next.TheVariants as nexts
-use Rattle.serve_links.specs.Calls.{AwaitsFirst, SettlesNext}
+use Rattle.serve_links.specs.Calls.{AwaitsFirst, IsLeft, SettlesNext}
 use Rattle.serve_links.specs.Dialects.{SpellsIn}
-use Rattle.serve_links.specs.Settled.{HoldsNoAnswer, HoldsForeign, SettlesOne, SettlesEach, SettlesSome, SettlesFront, used_by}
+use Rattle.serve_links.specs.Settled.{HoldsNoAnswer, HoldsForeign, SettlesOne, SettlesEach, SettlesSome, SettlesFront}
 
 -- more is awaited, and nothing has changed
-pub awaited : (sent : List SentCall) (bytes : List ℕ) (a : ServedCore) (sent' : List SentCall) (b : ServedCore) → SettlesNext sent bytes a nexts.More sent' b → HoldsNoAnswer sent' bytes b
-awaited sent bytes a sent' b is =
-    inr (subst (λ (s : List SentCall). AwaitsFirst s bytes b.core) (sym is.1) (subst (λ (c : ServedCore). AwaitsFirst sent bytes c.core) (sym is.2) is.0))
+pub awaited : (sent : List SentCall) (bytes : List ℕ) (a : ServedCore) (left : Left) (sent' : List SentCall) (b : ServedCore) → left ≡ lefts.Begun → SettlesNext sent bytes a (nexts.Left left) sent' b → HoldsNoAnswer sent' bytes b
+awaited sent bytes a left sent' b begun is =
+    inr (subst (λ (s : List SentCall). AwaitsFirst s bytes b.core) (sym is.1) (subst (λ (c : ServedCore). AwaitsFirst sent bytes c.core) (sym is.2) (subst (λ (l : Left). IsLeft l sent bytes a.core) begun is.0)))
 
 -- bytes that are some
 pub some_held : (bytes : List ℕ) → eqb (length bytes) 0 ≡ false → bytes ≢ []
@@ -23,9 +25,11 @@ some_held bytes e none = false_true (sym e ∙ ap (λ (l : List ℕ). eqb (lengt
     false_true e = cc
 
 -- no answer to the first call begins so, and nothing has changed
-pub foreign : (sent : List SentCall) (bytes : List ℕ) (a : ServedCore) (sent' : List SentCall) (b : ServedCore) → bytes ≢ [] → SettlesNext sent bytes a nexts.Foreign sent' b → HoldsForeign sent' bytes b
-foreign sent bytes a sent' b some is =
-    subst (λ (s : List SentCall). HoldsForeign s bytes b) (sym is.1) (subst (λ (c : ServedCore). HoldsForeign sent bytes c) (sym is.2) (record { some = some; foreign = is.0 }))
+pub foreign :
+    (sent : List SentCall) (bytes : List ℕ) (a : ServedCore) (left : Left) (sent' : List SentCall) (b : ServedCore) → bytes ≢ [] → left ≡ lefts.Foreign → SettlesNext sent bytes a (nexts.Left left) sent' b
+    → HoldsForeign sent' bytes b
+foreign sent bytes a left sent' b some none is =
+    subst (λ (s : List SentCall). HoldsForeign s bytes b) (sym is.1) (subst (λ (c : ServedCore). HoldsForeign sent bytes c) (sym is.2) (record { some = some; foreign = subst (λ (l : Left). IsLeft l sent bytes a.core) none is.0 }))
 
 -- whatever follows what is held
 pub foreign_over : (sent : List SentCall) (bytes more : List ℕ) (b : ServedCore) → HoldsForeign sent bytes b → HoldsForeign sent (bytes ++ more) b
@@ -84,15 +88,6 @@ one sent bytes a client used sent' bytes' b e is = record {
     first : SettlesOne sent bytes a is.0 sent' bytes' b
     first = record { front = bytes; more = []; whole = sym (append-nil bytes); used = used; answers = is.1; rest = e ∙ sym (append-nil (drop used bytes)); client = client; settles = is.2 }
 
--- it was, or nothing has changed
-pub by_next :
-    (sent : List SentCall) (bytes : List ℕ) (a : ServedCore) (next : Next) (sent' : List SentCall) (b : ServedCore) → SettlesNext sent bytes a next sent' b
-    → SettlesSome sent bytes a sent' (drop (used_by next) bytes) b
-by_next sent bytes a (nexts.Settled client used) sent' b is = one sent bytes a client used sent' (drop used bytes) b refl is
-by_next sent bytes a nexts.More sent' b is = none is.1 refl is.2
-by_next sent bytes a nexts.Foreign sent' b is = none is.1 refl is.2
-by_next sent bytes a nexts.NoMemory sent' b is = none is.0 refl is.1
-
 over_each :
     (answers : List Answer) (s : List SentCall) (x : List ℕ) (a : ServedCore) (t : List SentCall) (y : List ℕ) (b : ServedCore) (more : List ℕ)
     → SettlesEach answers s x a t y b → SettlesEach answers s (x ++ more) a t (y ++ more) b
@@ -141,10 +136,16 @@ pub front_then :
     {s : List SentCall} {x : List ℕ} {a : ServedCore} {t : List SentCall} {y : List ℕ} {b : ServedCore} {u : List SentCall} {c : ServedCore} → SettlesSome s x a t y b → SettlesFront t y b u c → SettlesFront s x a u c
 front_then f g = (g.0, both f g.1)
 
+-- and nothing was done then
+pub front_to :
+    {s : List SentCall} {x : List ℕ} {a : ServedCore} {t : List SentCall} {b : ServedCore} {u : List SentCall} {c : ServedCore} → u ≡ t → c ≡ b → SettlesFront s x a t b → SettlesFront s x a u c
+front_to e d f = (f.0, both f.1 (none e refl d))
+
 -- the first of them was, or not
 pub front_next :
     (sent : List SentCall) (bytes : List ℕ) (a : ServedCore) (next : Next) (sent' : List SentCall) (b : ServedCore) → SettlesNext sent bytes a next sent' b → SettlesFront sent bytes a sent' b
-front_next sent bytes a next sent' b is = (drop (used_by next) bytes, by_next sent bytes a next sent' b is)
+front_next sent bytes a (nexts.Settled client used) sent' b is = in_front (one sent bytes a client used sent' (drop used bytes) b refl is)
+front_next sent bytes a (nexts.Left left) sent' b is = none_front is.1 is.2
 
 -- more stands after the bytes
 pub front_over :

@@ -168,9 +168,7 @@ by_first (call ∷ sent) outcome client sent' a b is = one IsSettlement (Settled
 
 pub by_settle_next : (sent : List SentCall) (bytes : List ℕ) (next : Next) (sent' : List SentCall) (a b : ServedCore) → SettlesNext sent bytes a next sent' b → GoesBy IsSettlement a b
 by_settle_next sent bytes (nexts.Settled client used) sent' a b is = by_first sent (Answered is.0) (Some client) sent' a b is.2
-by_settle_next sent bytes nexts.More sent' a b is = still is.2
-by_settle_next sent bytes nexts.Foreign sent' a b is = still is.2
-by_settle_next sent bytes nexts.NoMemory sent' a b is = still is.1
+by_settle_next sent bytes (nexts.Left left) sent' a b is = still is.2
 
 -- ---- what all walks keep
 

@@ -1,5 +1,5 @@
 -- What is done with the calls of one server that are out. Source: mcgate's own.
-use Rattle.std.specs.Prelude.{◌≡◌, ℕ, Bool, false, List, [], ◌∷◌, ◌++◌, drop, Option, Some, None}
+use Rattle.std.specs.Prelude.{◌≡◌, ℕ, Bool, false, List, [], ◌∷◌, ◌++◌, drop, Option, Some, None, Result, Ok, Err}
 use Rattle.std.specs.List.{All}
 use Rattle.mc_types.specs.Fits.{Fits}
 use Rattle.mc_types.specs.declared.ask.Ask.{Ask}
@@ -17,8 +17,8 @@ use Rattle.core_accepted.specs.Results.{IsSettled}
 use Rattle.serve_links.specs.Dialects.{SpellsIn, IsForeignIn, IsCutIn}
 use Rattle.serve_links.specs.declared.calls.calls.SentCall.{SentCall}
 use Rattle.serve_links.specs.declared.calls.late_call.LateCall.{LateCall}
-use Rattle.serve_links.specs.declared.calls.calls.LateRead.{LateRead}
-use Rattle.serve_links.specs.declared.calls.calls.LateRead.TheVariants as lates
+use Rattle.serve_links.specs.declared.calls.calls.Left.{Left}
+use Rattle.serve_links.specs.declared.calls.calls.Left.TheVariants as lefts
 use Rattle.serve_links.specs.declared.calls.calls.Next.{Next}
 use Rattle.serve_links.specs.declared.calls.calls.Next.TheVariants as nexts
 
@@ -80,13 +80,17 @@ pub record AwaitsFirst (sent : List SentCall) (bytes : List ℕ) (core : Core) :
 abbrev pub IsForeignToFirst : List SentCall → List ℕ → Core → Type 0
 IsForeignToFirst sent bytes core = (number : ℕ) (dialect : Dialect) (ask : Ask) → first_asked sent ≡ Some (number, dialect) → asked core number ≡ Some ask → IsForeignIn dialect ask bytes
 
+-- of the bytes this is left: they are cut before the end of the first call's answer, or no answer to it begins so; where memory was refused nothing is said of them
+abbrev pub IsLeft : Left → List SentCall → List ℕ → Core → Type 0
+IsLeft lefts.Begun sent bytes core = AwaitsFirst sent bytes core
+IsLeft lefts.Foreign sent bytes core = IsForeignToFirst sent bytes core
+IsLeft lefts.NoMemory sent bytes core = Unit {0}
+
 -- the first call is settled by its answer, which the bytes begin with, or nothing is done
 abbrev pub SettlesNext : List SentCall → List ℕ → ServedCore → Next → List SentCall → ServedCore → Type 0
 SettlesNext sent bytes core (nexts.Settled client used) sent' core' =
     (answer : Answer) × AnswersFirst sent bytes core.core answer used × SettlesFirst sent core (Answered answer) (Some client) sent' core'
-SettlesNext sent bytes core nexts.More sent' core' = AwaitsFirst sent bytes core.core × (sent' ≡ sent) × (core' ≡ core)
-SettlesNext sent bytes core nexts.Foreign sent' core' = IsForeignToFirst sent bytes core.core × (sent' ≡ sent) × (core' ≡ core)
-SettlesNext sent bytes core nexts.NoMemory sent' core' = (sent' ≡ sent) × (core' ≡ core)
+SettlesNext sent bytes core (nexts.Left left) sent' core' = IsLeft left sent bytes core.core × (sent' ≡ sent) × (core' ≡ core)
 
 -- the call as one that is late
 abbrev pub as_late : SentCall → LateCall
@@ -98,11 +102,9 @@ IsFirstLate [] late = late ≡ None
 IsFirstLate (call ∷ sent) late = late ≡ Some (as_late call)
 
 -- so many bytes are the answer to a late call, or none are, or no answer to it begins so
-abbrev pub IsReadLate : LateCall → List ℕ → LateRead → Type 0
-IsReadLate call bytes (lates.Whole used) = (answer : Answer) × SpellsIn call.dialect call.ask bytes answer used
-IsReadLate call bytes lates.More = Unit {0}
-IsReadLate call bytes lates.Foreign = IsForeignIn call.dialect call.ask bytes
-IsReadLate call bytes lates.NoMemory = Unit {0}
+abbrev pub IsReadLate : LateCall → List ℕ → Result ℕ Left → Type 0
+IsReadLate call bytes (Ok used) = (answer : Answer) × SpellsIn call.dialect call.ask bytes answer used
+IsReadLate call bytes (Err left) = left ≡ lefts.Foreign → IsForeignIn call.dialect call.ask bytes
 
 -- no answer to the first of these late calls begins with the bytes
 abbrev pub IsForeignToLate : List LateCall → List ℕ → Type 0
@@ -110,8 +112,6 @@ IsForeignToLate [] bytes = ⊥
 IsForeignToLate (call ∷ late) bytes = IsForeignIn call.dialect call.ask bytes
 
 -- the bytes begin with the answer to the first of these late calls: both are gone; or nothing has changed
-abbrev pub PassesOver : List LateCall → List ℕ → LateRead → List LateCall → List ℕ → Type 0
-PassesOver late bytes (lates.Whole used) late' bytes' = (call : LateCall) × (late ≡ call ∷ late') × (bytes' ≡ drop used bytes) × ((answer : Answer) × SpellsIn call.dialect call.ask bytes answer used)
-PassesOver late bytes lates.More late' bytes' = (late' ≡ late) × (bytes' ≡ bytes)
-PassesOver late bytes lates.Foreign late' bytes' = (late' ≡ late) × (bytes' ≡ bytes) × IsForeignToLate late bytes
-PassesOver late bytes lates.NoMemory late' bytes' = (late' ≡ late) × (bytes' ≡ bytes)
+abbrev pub PassesOver : List LateCall → List ℕ → Result ℕ Left → List LateCall → List ℕ → Type 0
+PassesOver late bytes (Ok used) late' bytes' = (call : LateCall) × (late ≡ call ∷ late') × (bytes' ≡ drop used bytes) × ((answer : Answer) × SpellsIn call.dialect call.ask bytes answer used)
+PassesOver late bytes (Err left) late' bytes' = (late' ≡ late) × (bytes' ≡ bytes) × (left ≡ lefts.Foreign → IsForeignToLate late bytes)

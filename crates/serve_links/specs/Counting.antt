@@ -68,6 +68,4 @@ with_first_error (call ∷ sent) outcome errors = with_outcome_error outcome err
 -- it was answered, if that was done
 abbrev pub with_next : Next → CallTimes → CallTally
 with_next (nexts.Settled client used) times = with_answer (took times.went.items times.came) times.tally
-with_next nexts.More times = times.tally
-with_next nexts.Foreign times = times.tally
-with_next nexts.NoMemory times = times.tally
+with_next (nexts.Left left) times = times.tally

@@ -4,8 +4,6 @@ use Rattle.mc_types.specs.declared.answer.Answer.{Answer}
 use Rattle.mc_types.specs.declared.call.Outcome.TheVariants.{Answered}
 use Rattle.core_accepted.specs.declared.served.ServedCore.{ServedCore}
 use Rattle.serve_links.specs.declared.calls.calls.SentCall.{SentCall}
-use Rattle.serve_links.specs.declared.calls.calls.Next.{Next}
-use Rattle.serve_links.specs.declared.calls.calls.Next.TheVariants as nexts
 use Rattle.serve_links.specs.Calls.{AnswersFirst, AwaitsFirst, IsForeignToFirst, SettlesFirst}
 
 -- nothing is held, or what is held is cut before the end of the first call's answer
@@ -44,10 +42,3 @@ pub record SettlesSome (sent : List SentCall) (bytes : List ℕ) (core : ServedC
 -- calls are settled by some answers with which the bytes begin, or none, one after another, whatever is left of the bytes
 abbrev pub SettlesFront : List SentCall → List ℕ → ServedCore → List SentCall → ServedCore → Type 0
 SettlesFront sent bytes core sent' core' = (rest : List ℕ) × SettlesSome sent bytes core sent' rest core'
-
--- how many bytes the answer took that was settled, if one was
-abbrev pub used_by : Next → ℕ
-used_by (nexts.Settled client used) = used
-used_by nexts.More = 0
-used_by nexts.Foreign = 0
-used_by nexts.NoMemory = 0

@@ -6,6 +6,6 @@ mod late_call;
 mod sending;
 mod times;
 
-pub use calls::{LateRead, LinkCalls, Next, SentCall, fail_call};
+pub use calls::{Left, LinkCalls, Next, SentCall, fail_call};
 pub use late_call::LateCall;
 pub use sending::send_ask;

@@ -1,7 +1,7 @@
 //! Calls that are late: they have failed, and keep their places on their link's connection. Their answers come before all others, and nobody gets them;
 //! they are the sign that the server is back.
 
-ghost use Rattle.std.specs.Prelude.{◌≡◌, ℕ, List, None, []};
+ghost use Rattle.std.specs.Prelude.{◌≡◌, ℕ, List, None, Some, Err, []};
 ghost use Rattle.serve_wire.specs.Events.{WireEvent, time};
 ghost use Rattle.core_accepted.specs.declared.served.ServedCore.{ServedCore};
 ghost use Rattle.serve_links.specs.Calls.{PassesOver};
@@ -9,7 +9,7 @@ ghost use Rattle.serve_links.specs.Lateness.{HasOneLate, LetsStoresWait};
 ghost use Rattle.serve_links.specs.CoreSteps.{IsOfTurn, IsSending};
 ghost use Rattle.serve_links.specs.Story.{LineGoes, LineIsForeign};
 
-use crate::calls::{LateCall, LateRead, LinkCalls};
+use crate::calls::{LateCall, Left, LinkCalls};
 use crate::link::Link;
 use core_accepted::ServedCore;
 use serve_wire::conn::Conn;
@@ -17,37 +17,26 @@ use std::alloc::AllocError;
 use std::collections::VecDeque;
 use wire_stream::{Received, SHARED_FROM, large_len};
 
-/// What came of the late answers that a link holds.
-#[derive(Clone, Copy, PartialEq, Eq)]
-pub enum LateEnd {
-    /// All have come: no call is late any more.
-    Over,
-    /// More are to come.
-    More,
-    /// What is held begins no answer to the first call that is late.
-    Foreign,
-    /// Memory was refused for reading that.
-    NoMemory,
-}
-
-// The answer to the first of these calls is held no more, where what is held begins with it.
-fn pass_over(late: &mut VecDeque<LateCall>, calls: &mut LinkCalls, conn: &mut Conn) -> LateRead
+// The answer to the first of these calls is held no more, where what is held begins with it: how many bytes it was.
+fn pass_over(
+    late: &mut VecDeque<LateCall>,
+    calls: &mut LinkCalls,
+    conn: &mut Conn,
+) -> Result<usize, Left>
     ensures passes { PassesOver late.old.items conn.old.held.items result late.new.items conn.new.held.items }
     ensures sent { calls.new.sent ≡ calls.old.sent }
     ensures rest { conn.new ≡ record conn.old { held = conn.new.held } }
 {
     let Some(call) = late.front() else {
-        return LateRead::More;
+        return Err(Left::Begun);
     };
     match calls.read_late(call, &Received::copied(conn.held.as_slice())) {
-        LateRead::Whole(used) => {
+        Ok(used) => {
             conn.use_up(used);
             let _ = late.pop_front();
-            LateRead::Whole(used)
+            Ok(used)
         }
-        LateRead::More => LateRead::More,
-        LateRead::Foreign => LateRead::Foreign,
-        LateRead::NoMemory => LateRead::NoMemory,
+        Err(left) => Err(left),
     }
 }
 
@@ -72,45 +61,43 @@ impl Link {
         Ok(self.calls.fail_next(core))
     }
 
-    // The answer to the first call that is late is thrown away, where what is held begins with it.
-    fn throw_first(&mut self) -> LateRead
+    // The answer to the first call that is late is thrown away, where what is held begins with it: how many bytes it was.
+    fn throw_first(&mut self) -> Result<usize, Left>
         requires { self.old.awaits_dialect ≡ None }
         ensures goes { (at : ℕ) (core : ServedCore) (h : List WireEvent) → LineGoes IsOfTurn at core h self.old core h self.new }
-        ensures foreign { result ≡ LateRead.Foreign → LineIsForeign self.new }
+        ensures foreign { result ≡ Err Left.Foreign → LineIsForeign self.new }
         ensures told { self.new.awaits_dialect ≡ None }
     {
         let Some(conn) = self.conn.as_mut() else {
-            return LateRead::More;
+            return Err(Left::Begun);
         };
         pass_over(&mut self.late, &mut self.calls, conn)
     }
 
     /// Late answers that are held whole are thrown away, one after another, where the server has answered what it was asked first. They settle nothing:
-    /// the core stays as it is. After `Over` no call is late any more. After `Foreign` what is held begins no answer to the first call whose answer is to
-    /// come.
-    pub fn throw_late(&mut self) -> LateEnd
+    /// the core stays as it is. What is left where more are to come; after `None` no call is late any more. After `Left::Foreign` what is held begins no
+    /// answer to the first call whose answer is to come.
+    pub fn throw_late(&mut self) -> Option<Left>
         requires { self.old.awaits_dialect ≡ None }
         ensures goes { (at : ℕ) (core : ServedCore) (h : List WireEvent) → LineGoes IsOfTurn at core h self.old core h self.new }
-        ensures over { result ≡ LateEnd.Over → self.new.late.items ≡ [] }
-        ensures foreign { result ≡ LateEnd.Foreign → LineIsForeign self.new }
+        ensures over { result ≡ None → self.new.late.items ≡ [] }
+        ensures foreign { result ≡ Some Left.Foreign → LineIsForeign self.new }
         ensures told { self.new.awaits_dialect ≡ None }
     {
+        if !self.awaits_late() {
+            return None;
+        }
         for _ in 0..self.late.len() {
-            match self.throw_first() {
-                LateRead::Whole(_) => {}
-                LateRead::More => {
-                    self.awaited = self.awaited_len();
-                    return LateEnd::More;
-                }
-                LateRead::Foreign => return LateEnd::Foreign,
-                LateRead::NoMemory => return LateEnd::NoMemory,
+            if let Err(left) = self.throw_first() {
+                self.awaited = self.awaited_len();
+                return Some(left);
             }
         }
         if self.awaits_late() {
-            return LateEnd::More;
+            return Some(Left::Begun);
         }
         self.come_back();
-        LateEnd::Over
+        None
     }
 
     // How many bytes the answer takes whose begin is held, where its first line tells of large data.

@@ -14,11 +14,11 @@ mod room;
 mod settings;
 mod tally;
 
+pub use calls::Left;
 pub use client_bytes::{feed_held, read_once, send_once, show};
-pub use late::LateEnd;
 pub use link::{Lateness, Link, Opening, vain};
 pub use news::{CAUSES, Cause, LinkNews};
-pub use outcomes::{HeldAnswers, HeldLeft, fail_all, fail_late, settle_held};
+pub use outcomes::{HeldAnswers, fail_all, fail_late, settle_held};
 pub use room::{IDLE_ROOM, KEPT_ROOM, OWN_ROOM, give_back, has_spare};
 pub use settings::{Greeting, LinkLimits, ServerDialect, Settings};
 pub use tally::{CallTally, LinkTally, SPANS, Tally};

@@ -1,18 +1,17 @@
 //! The outcomes of a link's calls, for the core and the clients: answers settle them, or they fail.
 
-ghost use Rattle.std.specs.Prelude.{◌≡◌, ◌≢◌, ◌⊎◌, ℕ, List, true, ◌++◌, [], drop, None, IfSome};
+ghost use Rattle.std.specs.Prelude.{◌≡◌, ◌≢◌, ◌⊎◌, ℕ, List, true, ◌++◌, [], drop, None, Some, IfSome};
 ghost use Rattle.serve_wire.specs.Ends.{HoldsAnew};
 ghost use Rattle.serve_clients.specs.Agrees.{KeepsEnds};
-ghost use Rattle.serve_links.specs.Calls.{SettlesNext};
 ghost use Rattle.serve_wire.specs.Events.{WireEvent, time};
 ghost use Rattle.serve_links.specs.CoreSteps.{GoesBy, IsSettlement, IsSending, OnlyFails};
 ghost use Rattle.serve_links.specs.Story.{LineGoes};
 ghost use Rattle.core_accepted.specs.declared.served.ServedCore.{ServedCore};
 ghost use Rattle.serve_links.specs.Lateness.{HasLate, HasOneLate, LetsStoresWait};
 ghost use Rattle.serve_links.specs.Links.{AllFail, FailsTo, IsDown};
-ghost use Rattle.serve_links.specs.Settled.{HoldsNoAnswer, HoldsForeign, SettlesSome, SettlesFront, used_by};
+ghost use Rattle.serve_links.specs.Settled.{HoldsNoAnswer, HoldsForeign, SettlesSome, SettlesFront};
 
-use crate::calls::{LinkCalls, Next, fail_call};
+use crate::calls::{Left, LinkCalls, Next, fail_call};
 use crate::link::Link;
 use bytes::Bytes;
 use core_accepted::ServedCore;
@@ -109,24 +108,14 @@ fn fail_all_late(link: &mut Link, core: &mut ServedCore, clients: &mut Clients, 
     }
 }
 
-/// What is left of what a link holds.
-#[derive(Clone, Copy, PartialEq, Eq)]
-pub enum HeldLeft {
-    /// Nothing, or the begin of the next answer.
-    Begun,
-    /// What begins no answer to the next call, or what no call asked for.
-    Foreign,
-    /// What can't be read or kept, as memory was refused for that.
-    NoMemory,
-}
-
 /// What came of the answers that a link holds.
 #[derive(Clone, Copy)]
 pub struct HeldAnswers {
     /// Whether one was settled at least.
     pub has_settled: bool,
-    pub left: HeldLeft,
-    /// How many bytes that one takes, where its first line is there and tells of large data.
+    /// What is left of what is held.
+    pub left: Left,
+    /// How many bytes the next one takes, where its first line is there and tells of large data.
     pub awaited: Option<usize>,
 }
 
@@ -144,29 +133,12 @@ enum Stops {
 // What the answers that were settled end with.
 #[derive(Clone, Copy)]
 enum HeldStop {
-    // What is left may be the begin of the next one.
-    More,
-    // No answer to the next call begins so.
-    Foreign,
-    // Memory was refused for reading the next one.
-    NoMemory,
+    // What is left of the bytes.
+    Left(Left),
     // The next one has long data, and is there: they are to be shared, and so are those of the ones after it.
     Long,
     // The next one has large data, and is there: it takes so many bytes, if it is spelled as usual.
     Large(usize),
-}
-
-// What was done with the answer in front.
-#[derive(Clone, Copy)]
-enum HeldFront {
-    // It was settled, and is held no more.
-    Settled,
-    // It isn't whole yet.
-    More,
-    // No answer to the first call begins so.
-    Foreign,
-    // Memory was refused for reading it, or for what follows it.
-    NoMemory,
 }
 
 // What stands from this place on.
@@ -199,8 +171,8 @@ fn whole_front(from: usize, held: &[u8]) -> Option<usize> {
 
 // What stands in front, if that is an answer to stop at.
 fn front_stop(stops: Stops, held: &[u8]) -> Option<HeldStop>
-    ensures more { IfSome result (λ stop. stop ≢ HeldStop.More) }
-    ensures foreign { IfSome result (λ stop. stop ≢ HeldStop.Foreign) }
+    ensures begun { IfSome result (λ stop. stop ≢ HeldStop.Left Left.Begun) }
+    ensures foreign { IfSome result (λ stop. stop ≢ HeldStop.Left Left.Foreign) }
 {
     let from = match stops {
         Stops::Never => return None,
@@ -214,23 +186,6 @@ fn front_stop(stops: Stops, held: &[u8]) -> Option<HeldStop>
     }
 }
 
-// The first call is settled by its answer, if these bytes begin with it.
-fn settle_first(calls: &mut LinkCalls, core: &mut ServedCore, received: &Received) -> Next
-    ensures core { GoesBy IsSettlement core.old core.new }
-    ensures next { SettlesNext calls.old.sent.items received.now core.old result calls.new.sent.items core.new }
-{
-    calls.settle_next(core, received)
-}
-
-// The first call is settled by its answer, if what stands from this place on begins with it. (apart, so that what is made for it is gone by the end)
-fn settle_at(calls: &mut LinkCalls, core: &mut ServedCore, received: &Received, at: usize) -> Next
-    ensures core { GoesBy IsSettlement core.old core.new }
-    ensures next { SettlesNext calls.old.sent.items (drop at received.now) core.old result calls.new.sent.items core.new }
-{
-    let at = at.min(received.bytes().len());
-    settle_first(calls, core, &received.after(at))
-}
-
 // Whole answers in these bytes are settled, up to one to stop at: how many bytes they are, and what follows.
 fn settle_in(
     calls: &mut LinkCalls,
@@ -241,122 +196,67 @@ fn settle_in(
     stops: Stops,
 ) -> (usize, HeldStop)
     ensures core { GoesBy IsSettlement core.old core.new }
-    ensures left { result.1 ≡ HeldStop.More → HoldsNoAnswer calls.new.sent.items (drop result.0 received.now) core.new }
-    ensures foreign { result.1 ≡ HeldStop.Foreign → HoldsForeign calls.new.sent.items (drop result.0 received.now) core.new }
+    ensures left { result.1 ≡ HeldStop.Left Left.Begun → HoldsNoAnswer calls.new.sent.items (drop result.0 received.now) core.new }
+    ensures foreign { result.1 ≡ HeldStop.Left Left.Foreign → HoldsForeign calls.new.sent.items (drop result.0 received.now) core.new }
     ensures settled { SettlesSome calls.old.sent.items received.now core.old calls.new.sent.items (drop result.0 received.now) core.new }
     ensures front { SettlesFront calls.old.sent.items received.now core.old calls.new.sent.items core.new }
     ensures ends { KeepsEnds clients.old clients.new }
 {
-    let held = received.bytes();
+    let end = received.bytes().len();
     let mut used = 0usize;
-    for _ in 0..held.len() {
-        let rest = rest_of(held, used);
-        if rest.is_empty() {
-            return (used, HeldStop::More);
+    for _ in 0..end {
+        let rest = received.after(used.min(end));
+        if rest.bytes().is_empty() {
+            return (used, HeldStop::Left(Left::Begun));
         }
-        if let Some(stop) = front_stop(stops, rest) {
+        if let Some(stop) = front_stop(stops, rest.bytes()) {
             return (used, stop);
         }
         let is_get = calls.awaits_get();
-        match settle_at(calls, core, received, used) {
+        match calls.settle_next(core, &rest) {
             Next::Settled { client, used: len } => {
                 used = used.saturating_add(len);
                 *is_freed = true;
                 clients.mark_answered(client, is_get, len);
             }
-            Next::More => return (used, HeldStop::More),
-            Next::Foreign => return (used, HeldStop::Foreign),
-            Next::NoMemory => return (used, HeldStop::NoMemory),
+            Next::Left(left) => return (used, HeldStop::Left(left)),
         }
     }
     // No answer is empty, so nothing is left here.
-    if used < held.len() {
-        return (used, HeldStop::NoMemory);
+    if used < end {
+        return (used, HeldStop::Left(Left::NoMemory));
     }
-    (used, HeldStop::More)
+    (used, HeldStop::Left(Left::Begun))
 }
 
-// Whole answers in these bytes, which aren't shared, are settled, up to one to stop at: how many bytes they are, and what follows.
-fn settle_here(
-    calls: &mut LinkCalls,
-    core: &mut ServedCore,
-    clients: &mut Clients,
-    is_freed: &mut bool,
-    held: &[u8],
-    stops: Stops,
-) -> (usize, HeldStop)
-    ensures core { GoesBy IsSettlement core.old core.new }
-    ensures left { result.1 ≡ HeldStop.More → HoldsNoAnswer calls.new.sent.items (drop result.0 held.now) core.new }
-    ensures foreign { result.1 ≡ HeldStop.Foreign → HoldsForeign calls.new.sent.items (drop result.0 held.now) core.new }
-    ensures settled { SettlesSome calls.old.sent.items held.now core.old calls.new.sent.items (drop result.0 held.now) core.new }
-    ensures front { SettlesFront calls.old.sent.items held.now core.old calls.new.sent.items core.new }
-    ensures ends { KeepsEnds clients.old clients.new }
-{
-    settle_in(
-        calls,
-        core,
-        clients,
-        is_freed,
-        &Received::copied(held),
-        stops,
-    )
-}
-
-// All whole answers in these bytes, which are shared, are settled: how many bytes they are, and what follows.
-fn settle_cut(
-    calls: &mut LinkCalls,
-    core: &mut ServedCore,
-    clients: &mut Clients,
-    is_freed: &mut bool,
-    front: &Bytes,
-) -> (usize, HeldStop)
-    ensures core { GoesBy IsSettlement core.old core.new }
-    ensures left { result.1 ≡ HeldStop.More → HoldsNoAnswer calls.new.sent.items (drop result.0 front.now) core.new }
-    ensures foreign { result.1 ≡ HeldStop.Foreign → HoldsForeign calls.new.sent.items (drop result.0 front.now) core.new }
-    ensures settled { SettlesSome calls.old.sent.items front.now core.old calls.new.sent.items (drop result.0 front.now) core.new }
-    ensures front { SettlesFront calls.old.sent.items front.now core.old calls.new.sent.items core.new }
-    ensures ends { KeepsEnds clients.old clients.new }
-{
-    settle_in(
-        calls,
-        core,
-        clients,
-        is_freed,
-        &Received::shared(front),
-        Stops::Never,
-    )
-}
-
-// The answer in front is settled by a copy of its data.
+// The answer in front is settled by a copy of its data, and is held no more; or what is left.
 fn settle_copied(
     calls: &mut LinkCalls,
     core: &mut ServedCore,
     clients: &mut Clients,
     is_freed: &mut bool,
     conn: &mut Conn,
-) -> HeldFront
+) -> Option<Left>
     ensures core { GoesBy IsSettlement core.old core.new }
-    ensures left { result ≡ HeldFront.More → HoldsNoAnswer calls.new.sent.items conn.new.held.items core.new }
-    ensures foreign { result ≡ HeldFront.Foreign → HoldsForeign calls.new.sent.items conn.new.held.items core.new }
-    ensures settled { result ≢ HeldFront.NoMemory → SettlesSome calls.old.sent.items conn.old.held.items core.old calls.new.sent.items conn.new.held.items core.new }
+    ensures left { result ≡ Some Left.Begun → HoldsNoAnswer calls.new.sent.items conn.new.held.items core.new }
+    ensures foreign { result ≡ Some Left.Foreign → HoldsForeign calls.new.sent.items conn.new.held.items core.new }
+    ensures settled { result ≢ Some Left.NoMemory → SettlesSome calls.old.sent.items conn.old.held.items core.old calls.new.sent.items conn.new.held.items core.new }
     ensures front { SettlesFront calls.old.sent.items conn.old.held.items core.old calls.new.sent.items core.new }
     ensures ends { KeepsEnds clients.old clients.new }
     ensures rest { HoldsAnew conn.old conn.new }
 {
     if conn.held.is_empty() {
-        return HeldFront::More;
+        return Some(Left::Begun);
     }
     let is_get = calls.awaits_get();
-    match settle_first(calls, core, &Received::copied(conn.held.as_slice())) {
+    match calls.settle_next(core, &Received::copied(conn.held.as_slice())) {
         Next::Settled { client, used } => {
             conn.use_up(used);
             *is_freed = true;
             clients.mark_answered(client, is_get, used);
-            HeldFront::Settled
+            None
         }
-        Next::More => HeldFront::More,
-        Next::Foreign => HeldFront::Foreign,
-        Next::NoMemory => HeldFront::NoMemory,
+        Next::Left(left) => Some(left),
     }
 }
 
@@ -369,71 +269,56 @@ fn hold_rest(conn: &mut Conn, front: &Bytes, used: usize) -> bool
     conn.hold_again(rest, ROOM_AFTER).is_ok()
 }
 
-// What was done with the answer after those that were settled from a part that was cut off, of which the rest is held again or not.
-fn front_after(stop: HeldStop, is_kept: bool) -> HeldFront
-    ensures stop { result ≡ HeldFront.More → stop ≡ HeldStop.More }
-    ensures foreign { result ≡ HeldFront.Foreign → stop ≡ HeldStop.Foreign }
-    ensures kept { result ≢ HeldFront.NoMemory → is_kept ≡ true }
+// The same where they have more, and else nothing is done.
+fn hold_any(conn: &mut Conn, front: &Bytes, used: usize) -> bool
+    ensures held { result ≡ true → conn.new.held.items ≡ drop used front.now ++ conn.old.held.items }
+    ensures rest { HoldsAnew conn.old conn.new }
+{
+    used >= front.len() || hold_rest(conn, front, used)
+}
+
+// What is left after the answers that were settled from a part that was cut off, of which the rest is held again or not.
+fn left_after(stop: HeldStop, is_kept: bool) -> Left
+    ensures begun { result ≡ Left.Begun → stop ≡ HeldStop.Left Left.Begun }
+    ensures foreign { result ≡ Left.Foreign → stop ≡ HeldStop.Left Left.Foreign }
+    ensures kept { result ≢ Left.NoMemory → is_kept ≡ true }
 {
     match stop {
-        HeldStop::More if is_kept => HeldFront::More,
-        HeldStop::Foreign if is_kept => HeldFront::Foreign,
-        _ => HeldFront::NoMemory,
+        HeldStop::Left(left) if is_kept => left,
+        _ => Left::NoMemory,
     }
 }
 
-// Whole answers are settled, and long data of them share the buffer that they came in: whether one was, and what was done with the last.
+// Whole answers are settled, and long data of them share the buffer that they came in: what is left. Where memory is refused for that, the one in
+// front is settled by a copy.
 fn settle_long(
     calls: &mut LinkCalls,
     core: &mut ServedCore,
     clients: &mut Clients,
     is_freed: &mut bool,
     conn: &mut Conn,
-) -> (bool, HeldFront)
+) -> Option<Left>
     ensures core { GoesBy IsSettlement core.old core.new }
-    ensures left { result.1 ≡ HeldFront.More → HoldsNoAnswer calls.new.sent.items conn.new.held.items core.new }
-    ensures foreign { result.1 ≡ HeldFront.Foreign → HoldsForeign calls.new.sent.items conn.new.held.items core.new }
-    ensures settled { result.1 ≢ HeldFront.NoMemory → SettlesSome calls.old.sent.items conn.old.held.items core.old calls.new.sent.items conn.new.held.items core.new }
+    ensures left { result ≡ Some Left.Begun → HoldsNoAnswer calls.new.sent.items conn.new.held.items core.new }
+    ensures foreign { result ≡ Some Left.Foreign → HoldsForeign calls.new.sent.items conn.new.held.items core.new }
+    ensures settled { result ≢ Some Left.NoMemory → SettlesSome calls.old.sent.items conn.old.held.items core.old calls.new.sent.items conn.new.held.items core.new }
     ensures front { SettlesFront calls.old.sent.items conn.old.held.items core.old calls.new.sent.items core.new }
     ensures ends { KeepsEnds clients.old clients.new }
     ensures rest { HoldsAnew conn.old conn.new }
 {
     let Ok(front) = conn.held.freeze_to(conn.held.len()) else {
-        let front = settle_copied(calls, core, clients, is_freed, conn);
-        return (false, front);
+        return settle_copied(calls, core, clients, is_freed, conn);
     };
-    let (used, stop) = settle_cut(calls, core, clients, is_freed, &front);
+    let (used, stop) = settle_in(
+        calls,
+        core,
+        clients,
+        is_freed,
+        &Received::shared(&front),
+        Stops::Never,
+    );
     let is_kept = hold_rest(conn, &front, used);
-    (used > 0, front_after(stop, is_kept))
-}
-
-// How many bytes the answer took that was settled, if one was.
-fn used_by(next: Next) -> usize
-    ensures { result ≡ used_by next }
-{
-    match next {
-        Next::Settled { client: _, used } => used,
-        _ => 0,
-    }
-}
-
-// The first call is settled by its answer, if these bytes begin with it, and what they have besides is held again: what was done, and
-// whether memory was there for that.
-fn settle_shared(
-    calls: &mut LinkCalls,
-    core: &mut ServedCore,
-    front: &Bytes,
-    conn: &mut Conn,
-) -> (Next, bool)
-    ensures core { GoesBy IsSettlement core.old core.new }
-    ensures settled { result.1 ≡ true → SettlesSome calls.old.sent.items (front.now ++ conn.old.held.items) core.old calls.new.sent.items conn.new.held.items core.new }
-    ensures front { SettlesFront calls.old.sent.items (front.now ++ conn.old.held.items) core.old calls.new.sent.items core.new }
-    ensures rest { HoldsAnew conn.old conn.new }
-{
-    let next = settle_first(calls, core, &Received::shared(front));
-    let used = used_by(next);
-    let is_kept = used == front.len() || hold_rest(conn, front, used);
-    (next, is_kept)
+    Some(left_after(stop, is_kept))
 }
 
 // The answer in front, which takes so many bytes if it is spelled as usual, is settled, and its data share the buffer that they came in.
@@ -445,11 +330,11 @@ fn settle_large(
     is_freed: &mut bool,
     conn: &mut Conn,
     len: usize,
-) -> HeldFront
+) -> Option<Left>
     ensures core { GoesBy IsSettlement core.old core.new }
-    ensures left { result ≡ HeldFront.More → HoldsNoAnswer calls.new.sent.items conn.new.held.items core.new }
-    ensures foreign { result ≡ HeldFront.Foreign → HoldsForeign calls.new.sent.items conn.new.held.items core.new }
-    ensures settled { result ≢ HeldFront.NoMemory → SettlesSome calls.old.sent.items conn.old.held.items core.old calls.new.sent.items conn.new.held.items core.new }
+    ensures left { result ≡ Some Left.Begun → HoldsNoAnswer calls.new.sent.items conn.new.held.items core.new }
+    ensures foreign { result ≡ Some Left.Foreign → HoldsForeign calls.new.sent.items conn.new.held.items core.new }
+    ensures settled { result ≢ Some Left.NoMemory → SettlesSome calls.old.sent.items conn.old.held.items core.old calls.new.sent.items conn.new.held.items core.new }
     ensures front { SettlesFront calls.old.sent.items conn.old.held.items core.old calls.new.sent.items core.new }
     ensures ends { KeepsEnds clients.old clients.new }
     ensures rest { HoldsAnew conn.old conn.new }
@@ -458,74 +343,21 @@ fn settle_large(
     let Ok(front) = conn.held.freeze_to(len) else {
         return settle_copied(calls, core, clients, is_freed, conn);
     };
-    let is_get = calls.awaits_get();
-    match settle_shared(calls, core, &front, conn) {
-        (Next::Settled { client, used }, is_kept) => {
-            *is_freed = true;
-            clients.mark_answered(client, is_get, used);
-            if is_kept {
-                HeldFront::Settled
-            } else {
-                HeldFront::NoMemory
-            }
-        }
-        (_, true) => settle_copied(calls, core, clients, is_freed, conn),
-        (_, false) => HeldFront::NoMemory,
+    let (used, _) = settle_in(
+        calls,
+        core,
+        clients,
+        is_freed,
+        &Received::shared(&front),
+        Stops::Never,
+    );
+    if !hold_any(conn, &front, used) {
+        return Some(Left::NoMemory);
     }
-}
-
-// What settling stopped at is settled, if it is there: whether others than the last were, and what was done with that.
-fn settle_stop(
-    calls: &mut LinkCalls,
-    core: &mut ServedCore,
-    clients: &mut Clients,
-    is_freed: &mut bool,
-    conn: &mut Conn,
-    stop: HeldStop,
-) -> (bool, HeldFront)
-    requires left { stop ≡ HeldStop.More → HoldsNoAnswer calls.old.sent.items conn.old.held.items core.old }
-    requires foreign { stop ≡ HeldStop.Foreign → HoldsForeign calls.old.sent.items conn.old.held.items core.old }
-    ensures core { GoesBy IsSettlement core.old core.new }
-    ensures left { result.1 ≡ HeldFront.More → HoldsNoAnswer calls.new.sent.items conn.new.held.items core.new }
-    ensures foreign { result.1 ≡ HeldFront.Foreign → HoldsForeign calls.new.sent.items conn.new.held.items core.new }
-    ensures settled { result.1 ≢ HeldFront.NoMemory → SettlesSome calls.old.sent.items conn.old.held.items core.old calls.new.sent.items conn.new.held.items core.new }
-    ensures front { SettlesFront calls.old.sent.items conn.old.held.items core.old calls.new.sent.items core.new }
-    ensures ends { KeepsEnds clients.old clients.new }
-    ensures rest { HoldsAnew conn.old conn.new }
-{
-    match stop {
-        HeldStop::More => (false, HeldFront::More),
-        HeldStop::Foreign => (false, HeldFront::Foreign),
-        HeldStop::NoMemory => (false, HeldFront::NoMemory),
-        HeldStop::Long => settle_long(calls, core, clients, is_freed, conn),
-        HeldStop::Large(len) => {
-            let front = settle_large(calls, core, clients, is_freed, conn, len);
-            (false, front)
-        }
+    if used == 0 {
+        return settle_copied(calls, core, clients, is_freed, conn);
     }
-}
-
-// Whole answers are settled, up to one to stop at, and that one: whether others than the last were, and what was done with that.
-fn settle_some(
-    calls: &mut LinkCalls,
-    core: &mut ServedCore,
-    clients: &mut Clients,
-    is_freed: &mut bool,
-    conn: &mut Conn,
-    stops: Stops,
-) -> (bool, HeldFront)
-    ensures core { GoesBy IsSettlement core.old core.new }
-    ensures left { result.1 ≡ HeldFront.More → HoldsNoAnswer calls.new.sent.items conn.new.held.items core.new }
-    ensures foreign { result.1 ≡ HeldFront.Foreign → HoldsForeign calls.new.sent.items conn.new.held.items core.new }
-    ensures settled { result.1 ≢ HeldFront.NoMemory → SettlesSome calls.old.sent.items conn.old.held.items core.old calls.new.sent.items conn.new.held.items core.new }
-    ensures front { SettlesFront calls.old.sent.items conn.old.held.items core.old calls.new.sent.items core.new }
-    ensures ends { KeepsEnds clients.old clients.new }
-    ensures rest { HoldsAnew conn.old conn.new }
-{
-    let (used, stop) = settle_here(calls, core, clients, is_freed, conn.held.as_slice(), stops);
-    conn.use_up(used);
-    let (others, front) = settle_stop(calls, core, clients, is_freed, conn, stop);
-    (used > 0 || others, front)
+    None
 }
 
 // At which answers settling stops: sharing long data is worth its cost where much is held, and what was cut off before must be gone.
@@ -545,7 +377,7 @@ fn stops_for(calls: &mut LinkCalls, conn: &mut Conn) -> Stops
     }
 }
 
-fn told(has_settled: bool, left: HeldLeft, held: &[u8]) -> HeldAnswers
+fn told(has_settled: bool, left: Left, held: &[u8]) -> HeldAnswers
     ensures { result.left ≡ left }
 {
     HeldAnswers {
@@ -556,14 +388,14 @@ fn told(has_settled: bool, left: HeldLeft, held: &[u8]) -> HeldAnswers
 }
 
 // What is left where nothing should be.
-fn left_of(conn: &Conn) -> HeldLeft
-    ensures begun { result ≡ HeldLeft.Begun → conn.now.held.items ≡ [] }
-    ensures known { result ≢ HeldLeft.Foreign }
+fn left_of(conn: &Conn) -> Left
+    ensures begun { result ≡ Left.Begun → conn.now.held.items ≡ [] }
+    ensures known { result ≢ Left.Foreign }
 {
     if conn.held.is_empty() {
-        HeldLeft::Begun
+        Left::Begun
     } else {
-        HeldLeft::NoMemory
+        Left::NoMemory
     }
 }
 
@@ -578,38 +410,34 @@ pub fn settle_held(
     conn: &mut Conn,
 ) -> HeldAnswers
     ensures core { GoesBy IsSettlement core.old core.new }
-    ensures left { result.left ≡ HeldLeft.Begun → HoldsNoAnswer calls.new.sent.items conn.new.held.items core.new }
-    ensures foreign { result.left ≡ HeldLeft.Foreign → HoldsForeign calls.new.sent.items conn.new.held.items core.new }
-    ensures settled { result.left ≢ HeldLeft.NoMemory → SettlesSome calls.old.sent.items conn.old.held.items core.old calls.new.sent.items conn.new.held.items core.new }
+    ensures left { result.left ≡ Left.Begun → HoldsNoAnswer calls.new.sent.items conn.new.held.items core.new }
+    ensures foreign { result.left ≡ Left.Foreign → HoldsForeign calls.new.sent.items conn.new.held.items core.new }
+    ensures settled { result.left ≢ Left.NoMemory → SettlesSome calls.old.sent.items conn.old.held.items core.old calls.new.sent.items conn.new.held.items core.new }
     ensures front { SettlesFront calls.old.sent.items conn.old.held.items core.old calls.new.sent.items core.new }
     ensures ends { KeepsEnds clients.old clients.new }
     ensures rest { HoldsAnew conn.old conn.new }
 {
     let stops = stops_for(calls, conn);
-    let mut has_settled = false;
+    let out = calls.len();
     for _ in 0..conn.held.len() {
-        let (others, front) = settle_some(calls, core, clients, is_freed, conn, stops);
-        match front {
-            HeldFront::Settled => has_settled = true,
-            HeldFront::More => {
-                return told(has_settled || others, HeldLeft::Begun, conn.held.as_slice());
-            }
-            HeldFront::Foreign => {
-                return told(
-                    has_settled || others,
-                    HeldLeft::Foreign,
-                    conn.held.as_slice(),
-                );
-            }
-            HeldFront::NoMemory => {
-                return told(
-                    has_settled || others,
-                    HeldLeft::NoMemory,
-                    conn.held.as_slice(),
-                );
-            }
+        let (used, stop) = settle_in(
+            calls,
+            core,
+            clients,
+            is_freed,
+            &Received::copied(conn.held.as_slice()),
+            stops,
+        );
+        conn.use_up(used);
+        let left = match stop {
+            HeldStop::Left(left) => Some(left),
+            HeldStop::Long => settle_long(calls, core, clients, is_freed, conn),
+            HeldStop::Large(len) => settle_large(calls, core, clients, is_freed, conn, len),
+        };
+        if let Some(left) = left {
+            return told(calls.len() < out, left, conn.held.as_slice());
         }
     }
     // Nothing is held here either.
-    told(has_settled, left_of(conn), conn.held.as_slice())
+    told(calls.len() < out, left_of(conn), conn.held.as_slice())
 }

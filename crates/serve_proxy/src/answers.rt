@@ -10,7 +10,7 @@ use crate::failing::fail_link;
 use crate::sockets::Sockets;
 use core_accepted::ServedCore;
 use serve_clients::Clients;
-use serve_links::{Cause, HeldLeft, KEPT_ROOM, LateEnd, Link, settle_held, vain};
+use serve_links::{Cause, KEPT_ROOM, Left, Link, settle_held, vain};
 use serve_wire::Wire;
 use serve_wire::conn::Got;
 
@@ -104,8 +104,13 @@ fn learn_and_settle<W: Wire>(
     )
 }
 
-// What the server says to what it was asked first is taken from what the link holds, and then all whole answers are settled. Why the link fails by that,
-// if it does.
+// Whether the server is to answer something else before calls: what it was asked first, or calls that are late.
+fn awaits_other(link: &Link) -> bool {
+    link.awaits_greeting() || link.awaits_late()
+}
+
+// What the server says to what it was asked first is taken from what the link holds, and then late answers, which are thrown away. All whole answers
+// that come after those are settled. Why the link fails by that, if it does.
 fn settle_line(
     link: &mut Link,
     core: &mut ServedCore,
@@ -116,40 +121,21 @@ fn settle_line(
     ensures goes { LineGoesUnless result core.old link.old core.new link.new }
     ensures ends { KeepsEnds clients.old clients.new }
 {
-    if !link.awaits_greeting() {
-        return settle_after_late(link, core, clients, is_freed, false, polls);
-    }
+    let has_answered = awaits_other(link);
     if !link.learn() {
         return Some(Cause::Foreign);
     }
     if link.awaits_greeting() {
         return vain(link.has_read(false, polls));
     }
-    settle_after_late(link, core, clients, is_freed, true, polls)
-}
-
-// Late answers come before all others, and are thrown away. Why the link fails by that, if it does.
-fn settle_after_late(
-    link: &mut Link,
-    core: &mut ServedCore,
-    clients: &mut Clients,
-    is_freed: &mut bool,
-    has_answered: bool,
-    polls: Option<u32>,
-) -> Option<Cause>
-    requires { link.old.awaits_dialect ≡ None }
-    ensures goes { LineGoesUnless result core.old link.old core.new link.new }
-    ensures ends { KeepsEnds clients.old clients.new }
-{
-    if !link.awaits_late() {
-        return settle_all(link, core, clients, is_freed, has_answered, polls);
+    if let Some(left) = link.throw_late() {
+        return match left {
+            Left::Begun => None,
+            Left::Foreign => Some(Cause::Foreign),
+            Left::NoMemory => Some(Cause::NoRoom),
+        };
     }
-    match link.throw_late() {
-        LateEnd::Over => settle_all(link, core, clients, is_freed, true, polls),
-        LateEnd::More => None,
-        LateEnd::Foreign => Some(Cause::Foreign),
-        LateEnd::NoMemory => Some(Cause::NoRoom),
-    }
+    settle_all(link, core, clients, is_freed, has_answered, polls)
 }
 
 // All whole answers are settled, after another whole answer or not. Why the link fails by that, if it does.
@@ -173,9 +159,9 @@ fn settle_all(
     link.awaited = answers.awaited;
     let has_failed = link.has_read(has_answered || answers.has_settled, polls);
     match answers.left {
-        HeldLeft::Begun => vain(has_failed),
-        HeldLeft::Foreign => Some(Cause::Foreign),
-        HeldLeft::NoMemory => Some(Cause::NoRoom),
+        Left::Begun => vain(has_failed),
+        Left::Foreign => Some(Cause::Foreign),
+        Left::NoMemory => Some(Cause::NoRoom),
     }
 }
 

@@ -7,7 +7,7 @@ use examples_tables::playing::{Stage, cut, first_line, plain, play_lines, shown}
 use gate_check::judge;
 use mc_types::Dialect;
 use route_json::read_config;
-use serve_links::calls::{LinkCalls, Next, SentCall};
+use serve_links::calls::{Left, LinkCalls, Next, SentCall};
 use std::alloc::Global;
 use std::test::Fail;
 use wire_parts::to_send::SendBuffer;
@@ -106,9 +106,9 @@ fn dialect_of(word: &str) -> Dialect {
 fn next_text(alloc: Global, next: Next) -> Result<String, Fail> {
     match next {
         Next::Settled { client, used } => Ok(format!(in alloc; "client {client} by {used}")?),
-        Next::More => Ok("more".to_string(alloc)?),
-        Next::Foreign => Ok("foreign".to_string(alloc)?),
-        Next::NoMemory => Ok("no memory".to_string(alloc)?),
+        Next::Left(Left::Begun) => Ok("more".to_string(alloc)?),
+        Next::Left(Left::Foreign) => Ok("foreign".to_string(alloc)?),
+        Next::Left(Left::NoMemory) => Ok("no memory".to_string(alloc)?),
     }
 }
 

@@ -58,16 +58,14 @@ pub struct SentCall {
     pub dialect: Dialect,
 }
 
-/// What of a server's bytes is the answer to a call that is late.
-#[derive(Clone, Copy)]
-pub enum LateRead {
-    /// So many bytes.
-    Whole(usize),
-    /// It isn't whole yet.
-    More,
-    /// No answer to it begins so.
+/// What is left of a server's bytes, in which no further whole answer stands.
+#[derive(Clone, Copy, PartialEq, Eq)]
+pub enum Left {
+    /// Nothing, or the begin of the answer to the first call whose answer is to come.
+    Begun,
+    /// What begins no answer to that call, or what no call asked for.
     Foreign,
-    /// Memory was refused for reading it.
+    /// What can't be read or kept, as memory was refused for that.
     NoMemory,
 }
 
@@ -76,12 +74,8 @@ pub enum LateRead {
 pub enum Next {
     /// The first call of those that are out was settled: it was this client's, and its answer so many bytes.
     Settled { client: usize, used: usize },
-    /// Its answer isn't whole yet.
-    More,
-    /// No answer to it begins so, or none is out.
-    Foreign,
-    /// Memory was refused for reading it.
-    NoMemory,
+    /// None was: the bytes begin with no whole answer to it.
+    Left(Left),
 }
 
 /// The calls of one server that are out, in the order in which they went out.
@@ -476,7 +470,7 @@ impl LinkCalls {
         ensures counts { self.new.times.tally ≡ with_next result self.old.times }
     {
         let Some((number, dialect)) = self.first_asked() else {
-            return Next::Foreign;
+            return Next::Left(Left::Foreign);
         };
         let Some(read) = read_next(
             dialect,
@@ -487,11 +481,11 @@ impl LinkCalls {
             number,
             received,
         ) else {
-            return Next::NoMemory;
+            return Next::Left(Left::NoMemory);
         };
         match read {
-            AnswerRead::More => Next::More,
-            AnswerRead::Foreign => Next::Foreign,
+            AnswerRead::More => Next::Left(Left::Begun),
+            AnswerRead::Foreign => Next::Left(Left::Foreign),
             AnswerRead::Answer(answer, used) => {
                 let expects = self.expects_after(used);
                 match self.settle_first(core, Outcome::Answered(answer)) {
@@ -515,9 +509,9 @@ impl LinkCalls {
         Ok(Some(late_of(call)?))
     }
 
-    /// What of these bytes is the answer to a call that is late.
+    /// How many of these bytes are the answer to a call that is late; or what they are, where they don't begin with it.
     #[tactic(auto, using(crate::proofs::CallOrder::same_is_ask))]
-    pub fn read_late(&mut self, call: &LateCall, received: &Received) -> LateRead
+    pub fn read_late(&mut self, call: &LateCall, received: &Received) -> Result<usize, Left>
         ensures sent { self.new.sent ≡ self.old.sent }
         ensures read { IsReadLate call.now received.now result }
     {
@@ -529,12 +523,12 @@ impl LinkCalls {
             call.ask.get(),
             received,
         ) else {
-            return LateRead::NoMemory;
+            return Err(Left::NoMemory);
         };
         match read {
-            AnswerRead::Answer(_answer, used) => LateRead::Whole(used),
-            AnswerRead::More => LateRead::More,
-            AnswerRead::Foreign => LateRead::Foreign,
+            AnswerRead::Answer(_answer, used) => Ok(used),
+            AnswerRead::More => Err(Left::Begun),
+            AnswerRead::Foreign => Err(Left::Foreign),
         }
     }
 

@@ -1,9 +1,27 @@
-use Rattle.std.proofs.Common.{refl, ap}
-use Rattle.serve_wire.proofs.Anew.{anew_twice}
+use Rattle.std.proofs.Common.{◌≡◌, ◌≢◌, List, ℕ, drop, Option, Some, refl, sym, ap, ◌∙◌, subst}
+use Rattle.serve_clients.specs.declared.clients.Clients.{Clients}
+use Rattle.serve_wire.specs.declared.conn.conn.Conn.{Conn}
+use Rattle.serve_links.specs.declared.calls.calls.Left.{Left}
+use Rattle.serve_links.specs.declared.calls.calls.Left.TheVariants as lefts
+use Rattle.serve_wire.specs.Ends.{HoldsAnew}
+use Rattle.serve_clients.specs.Agrees.{KeepsEnds}
+use Rattle.serve_wire.proofs.Anew.{anew_held, anew_twice}
 use Rattle.serve_clients.proofs.Agreeing.{keeps_none, keeps_twice}
 use Rattle.serve_links.proofs.Walked.{still, then}
-use Rattle.serve_links.proofs.Leaving.{none, both, front_then}
+use Rattle.serve_links.proofs.Leaving.{none, both, between, none_front, front_then, front_to}
+use Rattle.serve_links.proofs.outcomes.settle_held.Goals.{in-Left, in-Long, in-Large}
 use Rattle.serve_links.proofs.outcomes.settle_held.Goals as goal
+
+-- what is left isn't what memory was refused for
+not_lost : (all one : Option Left) (left told : Left) → told ≢ lefts.NoMemory → told ≡ left → all ≡ Some left → all ≡ one → one ≢ Some lefts.NoMemory
+not_lost all one left told kept tells is same lost = kept (tells ∙ same_left (sym is ∙ same ∙ lost))
+  where
+    same_left : {a b : Left} → Some a ≡ Some b → a ≡ b
+    same_left e = cc
+
+-- or nothing is left
+never_lost : (all one : Option Left) → ((left : Left) → all ≡ Some left → ⊥) → all ≡ one → one ≢ Some lefts.NoMemory
+never_lost all one none same lost = none lefts.NoMemory (same ∙ lost)
 
 pub loop-init : goal.loop-init
 loop-init c = record {
@@ -14,51 +32,70 @@ loop-init c = record {
 }
 
 pub loop-preserved : goal.loop-preserved
-loop-preserved c = record {
-  core = then c.loop.invariant.core c.settle_some-others.ensures.core;
-  settled = both c.loop.invariant.settled (c.settle_some-others.ensures.settled (λ lost. absurd cc));
-  ends = keeps_twice c.args.clients.now c.loop.clients c.settle_some-others.new.clients c.loop.invariant.ends c.settle_some-others.ensures.ends;
-  rest = anew_twice c.args.conn.now c.loop.conn c.settle_some-others.new.conn c.loop.invariant.rest c.settle_some-others.ensures.rest;
-}
+loop-preserved c =
+    let same : c.loop.conn.held.items ≡ c.copied.result = cc in
+    let rest = c.use_up.ensures.held ∙ ap (λ (l : List ℕ). drop c.settle_in-used.result.0 l) same in
+    let here = both c.loop.invariant.settled (between same rest c.settle_in-used.ensures.settled) in
+    let core = then c.loop.invariant.core c.settle_in-used.ensures.core in
+    let ends = keeps_twice c.args.clients.now c.loop.clients c.settle_in-used.new.clients c.loop.invariant.ends c.settle_in-used.ensures.ends in
+    let anew = anew_twice c.args.conn.now c.loop.conn c.use_up.new.self c.loop.invariant.rest (anew_held c.loop.conn c.use_up.new.self c.use_up.ensures.rest) in
+    elim c.match-stop.branch [
+      | in-Left w ↦ record {
+        core = then core (still w.core-is);
+        settled = both here (none (ap (λ q. q.sent.items) w.calls-is) (ap (λ z. z.held.items) w.conn-is) w.core-is);
+        ends = subst (λ (z : Clients). KeepsEnds c.args.clients.now z) (sym w.clients-is) ends;
+        rest = subst (λ (z : Conn). HoldsAnew c.args.conn.now z) (sym w.conn-is) anew;
+      }
+      | in-Long w ↦ record {
+        core = then (then core w.settle_long-left.ensures.core) (still w.core-is);
+        settled = both (both here (w.settle_long-left.ensures.settled (never_lost c.match-stop.left w.settle_long-left.result c.in_default.not-Some w.left-is))) (none (ap (λ q. q.sent.items) w.calls-is) (ap (λ z. z.held.items) w.conn-is) w.core-is);
+        ends = subst (λ (z : Clients). KeepsEnds c.args.clients.now z) (sym w.clients-is) (keeps_twice c.args.clients.now c.settle_in-used.new.clients w.settle_long-left.new.clients ends w.settle_long-left.ensures.ends);
+        rest = subst (λ (z : Conn). HoldsAnew c.args.conn.now z) (sym w.conn-is) (anew_twice c.args.conn.now c.use_up.new.self w.settle_long-left.new.conn anew w.settle_long-left.ensures.rest);
+      }
+      | in-Large w ↦ record {
+        core = then (then core w.settle_large-left.ensures.core) (still w.core-is);
+        settled = both (both here (w.settle_large-left.ensures.settled (never_lost c.match-stop.left w.settle_large-left.result c.in_default.not-Some w.left-is))) (none (ap (λ q. q.sent.items) w.calls-is) (ap (λ z. z.held.items) w.conn-is) w.core-is);
+        ends = subst (λ (z : Clients). KeepsEnds c.args.clients.now z) (sym w.clients-is) (keeps_twice c.args.clients.now c.settle_in-used.new.clients w.settle_large-left.new.clients ends w.settle_large-left.ensures.ends);
+        rest = subst (λ (z : Conn). HoldsAnew c.args.conn.now z) (sym w.conn-is) (anew_twice c.args.conn.now c.use_up.new.self w.settle_large-left.new.conn anew w.settle_large-left.ensures.rest);
+      }
+    ]
 
-pub returns-in-More-clause-core : goal.returns-in-More-clause-core
-returns-in-More-clause-core c = then c.loop.invariant.core c.settle_some-others.ensures.core
+pub returns-in-Some-clause-core : goal.returns-in-Some-clause-core
+returns-in-Some-clause-core c =
+    let core = then c.loop.invariant.core c.settle_in-used.ensures.core in
+    elim c.match-stop.branch [
+      | in-Left w ↦ then core (still w.core-is)
+      | in-Long w ↦ then (then core w.settle_long-left.ensures.core) (still w.core-is)
+      | in-Large w ↦ then (then core w.settle_large-left.ensures.core) (still w.core-is)
+    ]
 
-pub returns-in-Foreign-clause-core : goal.returns-in-Foreign-clause-core
-returns-in-Foreign-clause-core c = then c.loop.invariant.core c.settle_some-others.ensures.core
+pub returns-in-Some-clause-settled : goal.returns-in-Some-clause-settled
+returns-in-Some-clause-settled c =
+    let same : c.loop.conn.held.items ≡ c.copied.result = cc in
+    let rest = c.use_up.ensures.held ∙ ap (λ (l : List ℕ). drop c.settle_in-used.result.0 l) same in
+    let here = both c.loop.invariant.settled (between same rest c.settle_in-used.ensures.settled) in
+    λ kept. elim c.match-stop.branch [
+      | in-Left w ↦ both here (none (ap (λ q. q.sent.items) w.calls-is) (ap (λ z. z.held.items) w.conn-is) w.core-is)
+      | in-Long w ↦ both (both here (w.settle_long-left.ensures.settled (not_lost c.match-stop.left w.settle_long-left.result c.in-Some.left c.told.result.left kept c.told.ensures c.in-Some.is w.left-is))) (none (ap (λ q. q.sent.items) w.calls-is) (ap (λ z. z.held.items) w.conn-is) w.core-is)
+      | in-Large w ↦ both (both here (w.settle_large-left.ensures.settled (not_lost c.match-stop.left w.settle_large-left.result c.in-Some.left c.told.result.left kept c.told.ensures c.in-Some.is w.left-is))) (none (ap (λ q. q.sent.items) w.calls-is) (ap (λ z. z.held.items) w.conn-is) w.core-is)
+    ]
 
-pub returns-in-More-clause-settled : goal.returns-in-More-clause-settled
-returns-in-More-clause-settled c = λ kept. both c.loop.invariant.settled (c.settle_some-others.ensures.settled (λ lost. absurd cc))
+pub returns-in-Some-clause-front : goal.returns-in-Some-clause-front
+returns-in-Some-clause-front c =
+    let same : c.loop.conn.held.items ≡ c.copied.result = cc in
+    let rest = c.use_up.ensures.held ∙ ap (λ (l : List ℕ). drop c.settle_in-used.result.0 l) same in
+    let here = both c.loop.invariant.settled (between same rest c.settle_in-used.ensures.settled) in
+    elim c.match-stop.branch [
+      | in-Left w ↦ front_then here (none_front (ap (λ q. q.sent.items) w.calls-is) w.core-is)
+      | in-Long w ↦ front_then here (front_to (ap (λ q. q.sent.items) w.calls-is) w.core-is w.settle_long-left.ensures.front)
+      | in-Large w ↦ front_then here (front_to (ap (λ q. q.sent.items) w.calls-is) w.core-is w.settle_large-left.ensures.front)
+    ]
 
-pub returns-in-More-clause-ends : goal.returns-in-More-clause-ends
-returns-in-More-clause-ends c = keeps_twice c.args.clients.now c.loop.clients c.settle_some-others.new.clients c.loop.invariant.ends c.settle_some-others.ensures.ends
-
-pub returns-in-More-clause-rest : goal.returns-in-More-clause-rest
-returns-in-More-clause-rest c = anew_twice c.args.conn.now c.loop.conn c.settle_some-others.new.conn c.loop.invariant.rest c.settle_some-others.ensures.rest
-
-pub returns-in-Foreign-clause-ends : goal.returns-in-Foreign-clause-ends
-returns-in-Foreign-clause-ends c = keeps_twice c.args.clients.now c.loop.clients c.settle_some-others.new.clients c.loop.invariant.ends c.settle_some-others.ensures.ends
-
-pub returns-in-Foreign-clause-rest : goal.returns-in-Foreign-clause-rest
-returns-in-Foreign-clause-rest c = anew_twice c.args.conn.now c.loop.conn c.settle_some-others.new.conn c.loop.invariant.rest c.settle_some-others.ensures.rest
-
-pub returns-in-More-clause-front : goal.returns-in-More-clause-front
-returns-in-More-clause-front c = front_then c.loop.invariant.settled c.settle_some-others.ensures.front
-
-pub returns-in-Foreign-clause-front : goal.returns-in-Foreign-clause-front
-returns-in-Foreign-clause-front c = front_then c.loop.invariant.settled c.settle_some-others.ensures.front
-
-pub returns-in-NoMemory-clause-core : goal.returns-in-NoMemory-clause-core
-returns-in-NoMemory-clause-core c = then c.loop.invariant.core c.settle_some-others.ensures.core
-
-pub returns-in-NoMemory-clause-ends : goal.returns-in-NoMemory-clause-ends
-returns-in-NoMemory-clause-ends c = keeps_twice c.args.clients.now c.loop.clients c.settle_some-others.new.clients c.loop.invariant.ends c.settle_some-others.ensures.ends
-
-pub returns-in-NoMemory-clause-rest : goal.returns-in-NoMemory-clause-rest
-returns-in-NoMemory-clause-rest c = anew_twice c.args.conn.now c.loop.conn c.settle_some-others.new.conn c.loop.invariant.rest c.settle_some-others.ensures.rest
-
-pub returns-in-NoMemory-clause-front : goal.returns-in-NoMemory-clause-front
-returns-in-NoMemory-clause-front c = front_then c.loop.invariant.settled c.settle_some-others.ensures.front
-
-pub returns-in-Foreign-clause-settled : goal.returns-in-Foreign-clause-settled
-returns-in-Foreign-clause-settled c = λ kept. both c.loop.invariant.settled (c.settle_some-others.ensures.settled (λ lost. absurd cc))
+pub returns-in-Some-clause-ends : goal.returns-in-Some-clause-ends
+returns-in-Some-clause-ends c =
+    let ends = keeps_twice c.args.clients.now c.loop.clients c.settle_in-used.new.clients c.loop.invariant.ends c.settle_in-used.ensures.ends in
+    elim c.match-stop.branch [
+      | in-Left w ↦ subst (λ (z : Clients). KeepsEnds c.args.clients.now z) (sym w.clients-is) ends
+      | in-Long w ↦ subst (λ (z : Clients). KeepsEnds c.args.clients.now z) (sym w.clients-is) (keeps_twice c.args.clients.now c.settle_in-used.new.clients w.settle_long-left.new.clients ends w.settle_long-left.ensures.ends)
+      | in-Large w ↦ subst (λ (z : Clients). KeepsEnds c.args.clients.now z) (sym w.clients-is) (keeps_twice c.args.clients.now c.settle_in-used.new.clients w.settle_large-left.new.clients ends w.settle_large-left.ensures.ends)
+    ]

@@ -2,7 +2,7 @@ use Rattle.std.proofs.Common.{◌≡◌, List, refl, sym, ap, ◌∙◌, subst}
 use Rattle.serve_wire.proofs.Steps.{untouched}
 use Rattle.serve_links.specs.declared.link.Link.{Link}
 use Rattle.serve_links.specs.declared.calls.calls.SentCall.{SentCall}
-use Rattle.serve_links.specs.declared.outcomes.HeldLeft.TheVariants as lefts
+use Rattle.serve_links.specs.declared.calls.calls.Left.TheVariants as lefts
 use Rattle.serve_links.specs.Settled.{HoldsForeign}
 use Rattle.serve_links.specs.Story.{server_and_opened}
 use Rattle.serve_links.proofs.Foreign.{line_foreign}

@@ -1,13 +1,12 @@
-use Rattle.std.proofs.Common.{refl, ap}
+use Rattle.std.proofs.Common.{Some, refl, ap, ◌∙◌}
 use Rattle.serve_wire.proofs.Steps.{untouched}
+use Rattle.serve_links.specs.declared.calls.calls.Left.{Left}
 use Rattle.serve_links.specs.Story.{line_of}
 use Rattle.serve_links.proofs.LinkGoes.{line_then, line_learns, line_keeps}
 use Rattle.serve_links.proofs.Foreign.{foreign_goes}
-use Rattle.serve_proxy.proofs.GivenUp.{vain_goes}
+use Rattle.serve_proxy.proofs.Linking.{line_may_lose}
+use Rattle.serve_proxy.proofs.GivenUp.{no_room_goes, vain_goes}
 use Rattle.serve_proxy.proofs.answers.settle_line.Goals as goal
-
-pub returns-then-not-awaits_greeting : goal.returns-then-not-awaits_greeting
-returns-then-not-awaits_greeting c = record { goes = c.settle_after_late.ensures.goes; ends = c.settle_after_late.ensures.ends }
 
 pub returns-then-not-learn : goal.returns-then-not-learn
 returns-then-not-learn c = record {
@@ -23,8 +22,28 @@ returns-then-awaits_greeting c = record {
   ends = λ j. refl;
 }
 
+pub returns-in-Begun : goal.returns-in-Begun
+returns-in-Begun c = record {
+  goes = λ at h. line_then (line_learns c.args.link.now c.learn.new.self c.learn.result c.learn.ensures.learns) (c.throw_late.ensures.goes at c.args.core.now h);
+  ends = λ j. refl;
+}
+
+pub returns-in-Foreign : goal.returns-in-Foreign
+returns-in-Foreign c = record {
+  goes = λ at h.
+      foreign_goes (c.throw_late.ensures.foreign (c.in-Some.is ∙ ap (λ (l : Left). Some l) c.in-Foreign.is))
+      (line_then (line_learns c.args.link.now c.learn.new.self c.learn.result c.learn.ensures.learns) (c.throw_late.ensures.goes at c.args.core.now h));
+  ends = λ j. refl;
+}
+
+pub returns-in-NoMemory : goal.returns-in-NoMemory
+returns-in-NoMemory c = record {
+  goes = λ at h. no_room_goes (line_may_lose (line_then (line_learns c.args.link.now c.learn.new.self c.learn.result c.learn.ensures.learns) (c.throw_late.ensures.goes at c.args.core.now h)));
+  ends = λ j. refl;
+}
+
 pub returns : goal.returns
 returns c = record {
-  goes = λ at h. line_then (line_learns c.args.link.now c.learn.new.self c.learn.result c.learn.ensures.learns) (c.settle_after_late-2.ensures.goes at h);
-  ends = c.settle_after_late-2.ensures.ends;
+  goes = λ at h. line_then (line_then (line_learns c.args.link.now c.learn.new.self c.learn.result c.learn.ensures.learns) (c.throw_late.ensures.goes at c.args.core.now h)) (c.settle_all.ensures.goes at h);
+  ends = c.settle_all.ensures.ends;
 }
