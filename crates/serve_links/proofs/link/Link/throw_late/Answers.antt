@@ -1,14 +1,15 @@
 use Rattle.std.proofs.Common.{◌≡◌, ℕ, Some, refl, ap, ◌∙◌}
-use Rattle.std.specs.Prelude.{Err}
+use Rattle.std.specs.Prelude.{Result, Err}
 use Rattle.serve_links.specs.declared.calls.calls.Left.{Left}
+use Rattle.serve_links.specs.declared.calls.calls.Left.TheVariants as lefts
 use Rattle.serve_links.specs.declared.link.Link.{Link}
 use Rattle.serve_links.specs.Story.{line_of}
 use Rattle.serve_links.proofs.LinkGoes.{quiet, line_keeps, line_then}
 use Rattle.serve_links.proofs.LateGoes.{line_still}
 use Rattle.serve_links.proofs.link.Link.throw_late.Goals as goal
 
-same_left : {a b : Left} → Some a ≡ Some b → a ≡ b
-same_left e = cc
+as_foreign : (read : Result ℕ Left) (left : Left) → read ≡ Err left → Some left ≡ Some lefts.Foreign → read ≡ Err lefts.Foreign
+as_foreign read left is same = cc
 
 pub loop-init : goal.loop-init
 loop-init c = record { goes = λ at core h. line_still c.args.self.now; told = c.requires }
@@ -26,7 +27,7 @@ pub returns-in-Err-clause-goes : goal.returns-in-Err-clause-goes
 returns-in-Err-clause-goes c = λ at core h. line_then (line_then (c.loop.invariant.goes at core h) (c.throw_first.ensures.goes at core h)) (line_keeps (quiet h) refl)
 
 pub returns-in-Err-clause-foreign : goal.returns-in-Err-clause-foreign
-returns-in-Err-clause-foreign c = λ is. c.throw_first.ensures.foreign (c.in-Err.is ∙ ap (λ (l : Left). Err {A = ℕ} l) (same_left is))
+returns-in-Err-clause-foreign c = λ is. c.throw_first.ensures.foreign (as_foreign c.throw_first.result c.in-Err.left c.in-Err.is is)
 
 pub returns-then-awaits_late : goal.returns-then-awaits_late
 returns-then-awaits_late c = record { goes = c.loop.invariant.goes; over = λ is. absurd cc; foreign = λ is. absurd cc; told = c.loop.invariant.told }
