@@ -36,7 +36,7 @@ use Rattle.core_accepted.specs.declared.beginnings.Beginnings.{Beginnings}
 use Rattle.core_accepted.specs.declared.served.ServedCore.{ServedCore}
 use Rattle.core_accepted.specs.declared.tally.CoreTally.{CoreTally}
 use Rattle.core_accepted.specs.Begun.{any_begun}
-use Rattle.core_accepted.specs.Tallies.{nothing_done}
+use Rattle.core_accepted.specs.Tallies.{nothing_done, MakesPlaces}
 use Rattle.core_accepted.specs.Known.{Known, is_arbitrary, first_of}
 use Rattle.core_accepted.specs.Logs.{MayBeLoaded, MayHaveLed, LogsGoCounting, LogsGoBy, IsNewFrom, IsUnchecked, fed, IsFreshLog, IsAccepted, EveryLogIsFresh, EveryLogFromIsFresh, IsAcceptedSince, BeginSo, EveryLogSinceIsFresh}
 
@@ -59,9 +59,9 @@ led_there old x opening at plans log now same limits leads =
 
 -- the empty log led to a new core by its tree
 led_by_none :
-    (word : Option Known) (tree : Route) (limits : CoreLimits) (x : Core) → MayBeLoaded word (λ _. tree) → core_state.IsNewCore tree limits x
-    → (opening : ℕ → List ℕ → Option Item) → MayHaveLed opening [] (record { core = x; accepted = word; tally = nothing_done })
-led_by_none word tree limits x loaded new opening =
+    (word : Option Known) (tree : Route) (limits : CoreLimits) (x : Core) (tally : CoreTally) → MayBeLoaded word (λ _. tree) → core_state.IsNewCore tree limits x
+    → (opening : ℕ → List ℕ → Option Item) → MayHaveLed opening [] (record { core = x; accepted = word; tally = tally })
+led_by_none word tree limits x tally loaded new opening =
     let plans : ℕ → List ℕ → Plan = λ n key. tree_at tree key in
     record {
       tree = λ _. tree;
@@ -73,14 +73,14 @@ led_by_none word tree limits x loaded new opening =
     }
 
 pub new_is_led :
-    (xs : List Configuration) (c : Configuration) (begun : Beginnings) (limits : CoreLimits) (x : Core) (known : Known) → IsLast xs c → known ≡ first_of c begun → core_state.IsNewCore c.tree limits x
-    → IsNewFrom xs begun limits (record { core = x; accepted = Some known; tally = nothing_done })
-new_is_led xs c begun limits x known at is new =
-    subst (λ (k : Known). IsNewFrom xs begun limits (record { core = x; accepted = Some k; tally = nothing_done })) (sym is)
-    (record { config = c; last = at; word = refl; tally = refl; core_is = new; led = led_by_none (Some (first_of c begun)) c.tree limits x (all_by_last (c ∷ []) c refl) new })
+    (xs : List Configuration) (c : Configuration) (begun : Beginnings) (limits : CoreLimits) (x : Core) (known : Known) (tally : CoreTally) → IsLast xs c → known ≡ first_of c begun → core_state.IsNewCore c.tree limits x
+    → MakesPlaces nothing_done tally → IsNewFrom xs begun limits (record { core = x; accepted = Some known; tally = tally })
+new_is_led xs c begun limits x known tally at is new none =
+    subst (λ (k : Known). IsNewFrom xs begun limits (record { core = x; accepted = Some k; tally = tally })) (sym is)
+    (record { config = c; last = at; word = refl; tally = none; core_is = new; led = led_by_none (Some (first_of c begun)) c.tree limits x tally (all_by_last (c ∷ []) c refl) new })
 
-pub unchecked_is_led : (tree : Route) (limits : CoreLimits) (x : Core) → core_state.IsNewCore tree limits x → IsUnchecked tree limits (record { core = x; accepted = None; tally = nothing_done })
-unchecked_is_led tree limits x new = record { word = refl; tally = refl; core_is = new; led = led_by_none None tree limits x tt new }
+pub unchecked_is_led : (tree : Route) (limits : CoreLimits) (x : Core) (tally : CoreTally) → core_state.IsNewCore tree limits x → MakesPlaces nothing_done tally → IsUnchecked tree limits (record { core = x; accepted = None; tally = tally })
+unchecked_is_led tree limits x tally new none = record { word = refl; tally = none; core_is = new; led = led_by_none None tree limits x tally tt new }
 
 -- a step of the core
 pub goes : (old : ServedCore) (x : Core) (IsKind : List (Entry dialect) → Type 0) → GoesByEntries old.core IsKind x → LogsGoBy old IsKind (record old { core = x })

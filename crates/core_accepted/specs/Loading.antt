@@ -20,6 +20,8 @@ use Rattle.core_proxy.specs.CoreState.{dialect}
 use Rattle.core_accepted.specs.declared.loading.LoadFault.{LoadFault}
 use Rattle.core_accepted.specs.declared.loading.LoadFault.TheVariants.{Refused, OtherServers}
 use Rattle.core_accepted.specs.declared.served.ServedCore.{ServedCore}
+use Rattle.core_accepted.specs.declared.tally.CoreTally.{CoreTally}
+use Rattle.core_accepted.specs.Tallies.{MakesPlaces}
 use Rattle.core_accepted.specs.Known.{Known, is_arbitrary, more}
 use Rattle.core_accepted.specs.Logs.{MayHaveLed}
 
@@ -40,14 +42,27 @@ abbrev pub AreSoundIfAsked : Option Known → Type 0
 AreSoundIfAsked (Some known) = AreSoundSince (is_arbitrary known) (trees_of known.configs)
 AreSoundIfAsked None = Unit {0}
 
--- the configuration is the next one that the gate accepted, if it was asked; it has this number, and its tree is the core's
-pub record IsLoaded (old : ServedCore) (config : Configuration) (number : ℕ) (new : ServedCore) : Type 0 where
+-- the configuration is the next one that the gate accepted, if it was asked; it has this number, its tree is the core's, and so the counts go on
+pub record TakesConfiguration (Counts : CoreTally → CoreTally → Type 0) (old : ServedCore) (config : Configuration) (number : ℕ) (new : ServedCore) : Type 0 where
   pub word : new.accepted ≡ option_map (more config) old.accepted
-  pub tally : new.tally ≡ old.tally
+  pub tally : Counts old.tally new.tally
   pub sound : AreSoundIfAsked new.accepted
   pub number_is : IsGeneration new.accepted new.core number
   pub reloads : core_state.Reloads old.core config.tree new.core
   pub goes : (opening : ℕ → List ℕ → Option Item) (past : List (Entry dialect)) (led : MayHaveLed opening past old) → TakesOver opening past config.tree old new led
+
+-- it has, and nothing of the counts has changed
+abbrev pub IsTaken : ServedCore → Configuration → ℕ → ServedCore → Type 0
+IsTaken = TakesConfiguration (λ old new. new ≡ old)
+
+-- servers got places among the counts, and nothing else has changed
+pub record TakesPlaces (old new : ServedCore) : Type 0 where
+  pub places : MakesPlaces old.tally new.tally
+  pub rest : new ≡ record old { tally = new.tally }
+
+-- it has, and servers may have got places among the counts
+abbrev pub IsLoaded : ServedCore → Configuration → ℕ → ServedCore → Type 0
+IsLoaded = TakesConfiguration MakesPlaces
 
 -- the fault of a configuration that would be of this generation
 abbrev pub loading_fault : Unsound → ℕ → ReloadFault

@@ -22,7 +22,7 @@ use Rattle.core_accepted.specs.declared.beginnings.Beginnings.{Beginnings}
 use Rattle.core_accepted.specs.declared.served.ServedCore.{ServedCore}
 use Rattle.core_accepted.specs.declared.tally.CoreTally.{CoreTally}
 use Rattle.core_accepted.specs.Begun.{any_begun}
-use Rattle.core_accepted.specs.Tallies.{nothing_done}
+use Rattle.core_accepted.specs.Tallies.{nothing_done, MakesPlaces}
 use Rattle.core_accepted.specs.Known.{Known, is_arbitrary, first_of}
 
 -- the trees by which commands run, by the commands' numbers: where the gate was asked, those that it accepted, one after another; else any
@@ -56,7 +56,7 @@ pub record IsNewFrom (accepted : List Configuration) (begun : Beginnings) (limit
   pub config : Configuration
   pub last : IsLast accepted config
   pub word : served.accepted ≡ Some (first_of config begun)
-  pub tally : served.tally ≡ nothing_done
+  pub tally : MakesPlaces nothing_done served.tally
   pub core_is : core_state.IsNewCore config.tree limits served.core
   pub led : (opening : ℕ → List ℕ → Option Item) → MayHaveLed opening [] served
 
@@ -67,7 +67,7 @@ IsNew accepted limits served = IsNewFrom accepted any_begun limits served
 -- no gate was asked, the core is a new one on this tree, and the empty log led to it
 pub record IsUnchecked (tree : Route) (limits : CoreLimits) (served : ServedCore) : Type 0 where
   pub word : served.accepted ≡ None
-  pub tally : served.tally ≡ nothing_done
+  pub tally : MakesPlaces nothing_done served.tally
   pub core_is : core_state.IsNewCore tree limits served.core
   pub led : (opening : ℕ → List ℕ → Option Item) → MayHaveLed opening [] served
 

@@ -1,5 +1,5 @@
 -- What polls and results add to each log that may have led to a core that is served. Source: mcgate's own.
-use Rattle.std.specs.Prelude.{◌≡◌, ℕ, List, [], ◌∷◌, ◌++◌, Option, ◌⊎◌, if◌then◌else◌}
+use Rattle.std.specs.Prelude.{◌≡◌, ℕ, List, [], ◌∷◌, ◌++◌, Option, Some, IfSome, ◌⊎◌, if◌then◌else◌}
 use Rattle.mc_types.specs.Items.{Item}
 use Rattle.mc_types.specs.declared.call.Outcome.{Outcome}
 use Rattle.mc_types.specs.declared.call.Origin.TheVariants.{Client as OfClient}
@@ -13,7 +13,8 @@ use Rattle.core_commands.specs.declared.command.Command.{Command}
 use Rattle.core_proxy.specs.declared.fault.CoreFault.{CoreFault}
 use Rattle.core_proxy.specs.declared.fault.CoreFault.TheVariants as faults
 use Rattle.core_proxy.specs.declared.note.Poll.{Poll}
-use Rattle.core_proxy.specs.CoreState.{dialect, client_at, dropped_by, IsBeside}
+use Rattle.core_proxy.specs.declared.proxy.Core.{Core}
+use Rattle.core_proxy.specs.CoreState.{dialect, client_at, command_at, dropped_by, IsBeside}
 use Rattle.core_proxy.specs.Steps.{event_of_call, settled_beside}
 use Rattle.core_proxy.specs.Settles.{IsNotOut, Settles, SettlesRefused, freed}
 use Rattle.core_proxy.specs.Polls.{StopsPolling, SoFar, EntriesThen, Perhaps, BeginsOne, IsPolled}
@@ -52,18 +53,28 @@ SettlesOn old number a outcome IsMore new =
     → EndsIn (led.beside.holds (server_of_pending a.job.pending) (ask_under a.job.frames.items a.job.ask).key) (led.beside.found number) number (ask_under a.job.frames.items a.job.ask) (origin_under a.job.frames.items OfClient) end
     → (more : List (Entry dialect)) × IsMore more × (led' : MayHaveLed opening ((more ++ Happens (event_of_call number a end) ∷ []) ++ past) new) × IsBeside (settled_beside (event_of_call number a end) led.beside) led'.beside
 
+-- the call of this number is one of this server's, if it is out
+abbrev pub IsCallAt : Core → ℕ → ℕ → Type 0
+IsCallAt core number server = (command : Command) × (command_at core number ≡ Some command) × (server ≡ server_of_pending command.job.pending)
+
+-- a call of this command had this outcome, which is counted, at the call's server if that was found
+pub record CountsResult (command : Command) (outcome : Outcome) (old new : CoreTally) : Type 0 where
+  pub server : Option ℕ
+  pub found : IfSome server (λ at. at ≡ server_of_pending command.job.pending)
+  pub tally : new ≡ with_outcome server outcome old
+
 -- the command of this number has the result of its call, which is counted; where nothing is done for its client any more, it is broken off
 pub record TakesResult (old : ServedCore) (number : ℕ) (outcome : Outcome) (new : ServedCore) : Type 0 where
   pub word : new.accepted ≡ old.accepted
-  pub tally : new.tally ≡ with_outcome outcome old.tally
   pub settles : Settles old.core number outcome new.core
+  pub counts : CountsResult settles.command outcome old.tally new.tally
   pub goes : SettlesOn old number settles.command outcome (λ more. more ≡ (if dropped_by (client_at old.core settles.command.client) then log.Frees number ∷ [] else [])) new
 
 -- memory was refused: the command of this number has the result all the same, which is counted, and nothing is done for its client any more
 pub record BreaksWith (old : ServedCore) (number : ℕ) (outcome : Outcome) (new : ServedCore) : Type 0 where
   pub word : new.accepted ≡ old.accepted
-  pub tally : new.tally ≡ with_outcome outcome old.tally
   pub breaks : SettlesRefused old.core number outcome new.core
+  pub counts : CountsResult breaks.command outcome old.tally new.tally
   pub goes : SettlesOn old number breaks.command outcome (λ more. more ≡ freed breaks.numbers ++ log.Frees number ∷ log.Drops breaks.command.client ∷ []) new
 
 -- no call of this number was out, and all is as it was; or memory was refused

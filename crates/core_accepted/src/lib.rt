@@ -9,6 +9,7 @@ pub mod generations;
 pub mod laws;
 pub mod loading;
 pub mod served;
+pub mod server_counts;
 pub mod tally;
 
 pub use beginnings::Beginnings;
@@ -16,4 +17,4 @@ pub use gate_growth::ledger::Beginning;
 pub use generations::Generations;
 pub use loading::LoadFault;
 pub use served::ServedCore;
-pub use tally::{CoreTally, OpTally};
+pub use tally::{CoreTally, OpTally, ServerTally};

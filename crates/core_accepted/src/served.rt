@@ -10,9 +10,9 @@ ghost use Rattle.core_commands.specs.Lines.{is_standing};
 ghost use Rattle.core_proxy.specs.Polls.{Polls, PollFault};
 ghost use Rattle.core_proxy.specs.Settles.{FitsCall, asked, SettleFault};
 ghost use Rattle.core_accepted.specs.Logs.{IsNew, IsNewFrom, IsUnchecked, LogsGoBy, fed};
-ghost use Rattle.core_accepted.specs.Tallies.{with_client, with_refusal};
-ghost use Rattle.core_accepted.specs.Loading.{IsLoaded, RefusesLoad};
-ghost use Rattle.core_accepted.specs.Results.{StaysCounting, PollGoes, PollStops, TakesResult, SettleStops, IsSettled};
+ghost use Rattle.core_accepted.specs.Tallies.{with_client, with_refusal, MakesPlaces, nothing_done};
+ghost use Rattle.core_accepted.specs.Loading.{IsTaken, TakesPlaces, IsLoaded, RefusesLoad};
+ghost use Rattle.core_accepted.specs.Results.{StaysCounting, PollGoes, PollStops, IsCallAt, TakesResult, SettleStops, IsSettled};
 
 use crate::beginnings::Beginnings;
 use crate::generations::Generations;
@@ -39,6 +39,15 @@ pub struct ServedCore {
     pub(crate) accepted: Option<Generations>,
     // What it has done so far.
     pub(crate) tally: CoreTally,
+}
+
+// Nothing is done yet, and so many servers have places, if no memory is refused.
+fn tally_for(alloc: Global, servers: usize) -> CoreTally
+    ensures { MakesPlaces nothing_done result }
+{
+    let mut tally = CoreTally::new(alloc);
+    tally.make_places(servers);
+    tally
 }
 
 impl ServedCore {
@@ -70,18 +79,18 @@ impl ServedCore {
         Ok(ServedCore {
             core: Core::unchecked(alloc, tree, limits),
             accepted: Some(generations),
-            tally: CoreTally::new(),
+            tally: tally_for(alloc, accepted.config().servers().len()),
         })
     }
 
-    /// A core without clients, on a tree of which no gate was asked.
-    pub fn unchecked(alloc: Global, tree: Tree, limits: CoreLimits) -> ServedCore
+    /// A core without clients, on a tree of which no gate was asked. Calls are counted by server where it is one of so many.
+    pub fn unchecked(alloc: Global, tree: Tree, servers: usize, limits: CoreLimits) -> ServedCore
         ensures { IsUnchecked tree limits result }
     {
         ServedCore {
             core: Core::unchecked(alloc, tree, limits),
             accepted: None,
-            tally: CoreTally::new(),
+            tally: tally_for(alloc, servers),
         }
     }
 
@@ -178,11 +187,11 @@ impl ServedCore {
     }
 
     /// What it has done so far: clients opened or turned away, messages refused, commands ended, and calls given out, answered and
-    /// failed, as its calls told.
-    pub fn tally(&self) -> CoreTally
-        ensures { result ≡ self.now.tally }
+    /// failed, of all servers and of each, as its calls told.
+    pub fn tally(&self) -> &CoreTally
+        ensures { result.now ≡ self.now.tally }
     {
-        self.tally
+        &self.tally
     }
 
     /// The client leaves the line of the key that its next command waits for: whether it stood in one. Nothing else changes, and
@@ -203,8 +212,18 @@ impl ServedCore {
         self.core.asked(number)
     }
 
+    // At which server the call of this number is that is out.
+    fn server_of(&self, number: u64) -> Option<usize>
+        ensures { IfSome result (IsCallAt self.now.core number) }
+    {
+        match self.core.called(number) {
+            Some(call) => Some(call.server.number() as usize),
+            None => None,
+        }
+    }
+
     /// A call that was given out had this outcome, which fits its ask. Its command goes on by that, or is broken off where nothing
-    /// is done for its client any more. The call is counted as answered or as failed. However the call ended at its server, if that
+    /// is done for its client any more. The call is counted as answered or as failed, also at its server. However the call ended at its server, if that
     /// gives the outcome and fits what the server held, each log goes on by it.
     ///
     /// `NoTicket` where no call of the ticket's number is out: all is as it was. `NoMemory`: the call had its outcome all the same,
@@ -217,9 +236,10 @@ impl ServedCore {
         ensures stops { IfErr result (λ fault. SettleStops self.old ticket.number outcome fault self.new) }
         ensures settled { IsSettled self.old ticket.number outcome self.new }
     {
+        let server = self.server_of(ticket.number);
         let answered = is_answer(&outcome);
         let settled = self.core.settle(ticket, outcome);
-        self.tally.note_settled(answered, &settled);
+        self.tally.note_settled(answered, server, &settled);
         settled
     }
 
@@ -241,9 +261,31 @@ impl ServedCore {
     /// they began. It gives the number of the generation.
     ///
     /// Where the gate accepted its trees, the new one has to clear what it takes, each generation's tree too unless nothing was put
-    /// there before, and the list of servers has to begin with the one in use. After a fault all is as it was.
+    /// there before, and the list of servers has to begin with the one in use. After a fault all is as it was. Its new servers have
+    /// places among the counts, if no memory is refused for them.
     pub fn load(&mut self, alloc: Global, config: Config) -> Result<u32, LoadFault>
         ensures loaded { IfOk result (λ number. IsLoaded self.old config number self.new) }
+        ensures refused { IfErr result (λ fault. RefusesLoad self.old config fault × (self.new ≡ self.old)) }
+    {
+        let servers = config.servers().len();
+        let loaded = self.take(alloc, config);
+        self.make_places(servers, &loaded);
+        loaded
+    }
+
+    // So many servers have places among the counts, if they were loaded and no memory is refused.
+    fn make_places(&mut self, servers: usize, loaded: &Result<u32, LoadFault>)
+        ensures ok { OnOk loaded.now (TakesPlaces self.old self.new) }
+        ensures err { OnErr loaded.now (self.new ≡ self.old) }
+    {
+        if loaded.is_ok() {
+            self.tally.make_places(servers);
+        }
+    }
+
+    // The same, but for the counts.
+    fn take(&mut self, alloc: Global, config: Config) -> Result<u32, LoadFault>
+        ensures loaded { IfOk result (λ number. IsTaken self.old config number self.new) }
         ensures refused { IfErr result (λ fault. RefusesLoad self.old config fault × (self.new ≡ self.old)) }
     {
         match &mut self.accepted {

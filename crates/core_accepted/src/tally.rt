@@ -1,14 +1,16 @@
 //! What a core has done so far. A count that reaches the greatest number stays there.
 
-ghost use Rattle.std.specs.Prelude.{◌≡◌, ◌<◌, IfOk, OnErr};
+ghost use Rattle.std.specs.Prelude.{◌≡◌, ◌<◌, true, false, IfOk, OnErr};
 ghost use Rattle.route_tree.specs.Operation.{op_number};
-ghost use Rattle.core_accepted.specs.Tallies.{more_at, with_note, with_poll, is_answer, with_end, with_settling, with_opening, nothing_done, of_op};
+ghost use Rattle.core_accepted.specs.Tallies.{more_at, lost_unless, MakesPlaces, with_note, with_call, with_poll, is_answer, with_end, with_settling, with_opening, nothing_done, of_op, of_server};
 
+use crate::server_counts::ServerCounts;
 use core_proxy::{CoreFault, Note, Poll};
 use mc_types::{Op, Outcome};
+use std::alloc::Global;
 
 /// What a core has done so far.
-#[derive(Clone, Copy)]
+#[derive(Drop)]
 pub struct CoreTally {
     /// How many clients it has opened.
     pub opened: u64,
@@ -35,6 +37,26 @@ pub struct CoreTally {
     acknowledged: [u64; 12],
     // All others.
     others: [u64; 12],
+    // Of each server, calls that it gave out.
+    calls_at: ServerCounts,
+    // Those of them that were answered.
+    answered_at: ServerCounts,
+    // Those that have failed.
+    failed_at: ServerCounts,
+    /// How often a call that it gave out, or one that was answered or has failed, is counted at no server: its server has no place here, as memory
+    /// was refused for that.
+    pub unplaced: u64,
+}
+
+/// What has become of the calls of a server.
+#[derive(Clone, Copy)]
+pub struct ServerTally {
+    /// How many calls of it were given out.
+    pub calls: u64,
+    /// How many of them were answered.
+    pub answered: u64,
+    /// How many have failed.
+    pub failed: u64,
 }
 
 /// How many commands of an operation have ended.
@@ -90,8 +112,8 @@ fn add_at(counts: &mut [u64; 12], place: usize)
 }
 
 impl CoreTally {
-    /// Nothing yet.
-    pub fn new() -> CoreTally
+    /// Nothing yet, and no server has a place. It takes no memory.
+    pub fn new(alloc: Global) -> CoreTally
         ensures { result ≡ nothing_done }
     {
         CoreTally {
@@ -106,7 +128,20 @@ impl CoreTally {
             items: [0; 12],
             acknowledged: [0; 12],
             others: [0; 12],
+            calls_at: ServerCounts::new(alloc),
+            answered_at: ServerCounts::new(alloc),
+            failed_at: ServerCounts::new(alloc),
+            unplaced: 0,
         }
+    }
+
+    /// The servers below this number have places, if no memory is refused. No count changes.
+    pub fn make_places(&mut self, servers: usize)
+        ensures { MakesPlaces self.old self.new }
+    {
+        self.calls_at.make_places(servers);
+        self.answered_at.make_places(servers);
+        self.failed_at.make_places(servers);
     }
 
     /// A client was opened, or turned away.
@@ -136,6 +171,24 @@ impl CoreTally {
         }
     }
 
+    // One is counted at its server, or wasn't.
+    fn note_place(&mut self, is_placed: bool)
+        ensures { self.new ≡ record self.old { unplaced = lost_unless is_placed self.old.unplaced } }
+    {
+        if !is_placed {
+            self.unplaced = self.unplaced.saturating_add(1);
+        }
+    }
+
+    // One more call was given out, of this server.
+    fn note_call(&mut self, server: usize)
+        ensures { self.new ≡ with_call server self.old }
+    {
+        self.calls = self.calls.saturating_add(1);
+        let is_placed = self.calls_at.count_one(server);
+        self.note_place(is_placed);
+    }
+
     /// A poll ended with this: a command ended, a call was given out, or a message was refused, if it tells so.
     pub fn note_polled(&mut self, polled: &Result<Poll, CoreFault>)
         ensures counted { IfOk polled.now (λ poll. self.new ≡ with_poll poll self.old) }
@@ -143,30 +196,59 @@ impl CoreTally {
     {
         match polled {
             Ok(Poll::Did(note)) => self.note(note),
-            Ok(Poll::Call(_)) => self.calls = self.calls.saturating_add(1),
+            Ok(Poll::Call(ticket)) => self.note_call(ticket.server.number() as usize),
             Ok(Poll::Refused) => self.bad_messages = self.bad_messages.saturating_add(1),
             _ => {}
         }
     }
 
-    // One more call was answered, or has failed.
-    fn note_end(&mut self, answered: bool)
-        ensures { self.new ≡ with_end answered self.old }
+    // One more call was answered, of this server.
+    fn note_answered(&mut self, server: Option<usize>)
+        ensures { self.new ≡ with_end true server self.old }
+    {
+        self.answered = self.answered.saturating_add(1);
+        let is_placed = match server {
+            Some(at) => self.answered_at.count_one(at),
+            None => false,
+        };
+        self.note_place(is_placed);
+    }
+
+    // One more has failed.
+    fn note_failed(&mut self, server: Option<usize>)
+        ensures { self.new ≡ with_end false server self.old }
+    {
+        self.failed = self.failed.saturating_add(1);
+        let is_placed = match server {
+            Some(at) => self.failed_at.count_one(at),
+            None => false,
+        };
+        self.note_place(is_placed);
+    }
+
+    // One more call of this server was answered, or has failed.
+    fn note_end(&mut self, answered: bool, server: Option<usize>)
+        ensures { self.new ≡ with_end answered server self.old }
     {
         if answered {
-            self.answered = self.answered.saturating_add(1);
+            self.note_answered(server)
         } else {
-            self.failed = self.failed.saturating_add(1);
+            self.note_failed(server)
         }
     }
 
-    /// A call was settled so, as answered or as failed, if it was out.
-    pub fn note_settled(&mut self, answered: bool, settled: &Result<(), CoreFault>)
-        ensures { self.new ≡ with_settling answered settled.now self.old }
+    /// A call was settled so, as answered or as failed, if it was out: that of this server.
+    pub fn note_settled(
+        &mut self,
+        answered: bool,
+        server: Option<usize>,
+        settled: &Result<(), CoreFault>,
+    )
+        ensures { self.new ≡ with_settling answered server settled.now self.old }
     {
         match settled {
-            Ok(()) => self.note_end(answered),
-            Err(CoreFault::NoMemory) => self.note_end(answered),
+            Ok(()) => self.note_end(answered, server),
+            Err(CoreFault::NoMemory) => self.note_end(answered, server),
             Err(_) => {}
         }
     }
@@ -181,6 +263,17 @@ impl CoreTally {
             items: self.items[place],
             acknowledged: self.acknowledged[place],
             others: self.others[place],
+        }
+    }
+
+    /// What has become of the calls of this server.
+    pub fn of_server(&self, server: usize) -> ServerTally
+        ensures { result ≡ of_server self.now server }
+    {
+        ServerTally {
+            calls: self.calls_at.of(server),
+            answered: self.answered_at.of(server),
+            failed: self.failed_at.of(server),
         }
     }
 }

@@ -13,9 +13,11 @@ use Rattle.serve_links.specs.CoreSteps.{Step, Walks}
 use Rattle.serve_links.specs.Story.{Agrees, texts_of}
 use Rattle.serve_links.specs.Called.{TellsCallsOut}
 use Rattle.serve_links.specs.Talks.{IsOrderly}
-use Rattle.core_accepted.specs.Tallies.{nothing_done}
+use Rattle.core_accepted.specs.Tallies.{nothing_done, MakesPlaces}
 use Rattle.serve_links.specs.Counts.{AreCounted, ResultsAreCounted}
+use Rattle.serve_links.specs.ByServer.{AreCountedByServer}
 use Rattle.serve_links.proofs.Counts.{steps_are_counted}
+use Rattle.serve_links.proofs.ByServer.{steps_are_counted_by_server}
 use Rattle.serve_links.proofs.LateWalks.{walks_are_fresh_late}
 use Rattle.serve_links.proofs.Walked.{walks_keep_since}
 use Rattle.serve_proxy.specs.declared.proxy.ProxyEnd.{ProxyEnd}
@@ -81,18 +83,25 @@ has_freshly_late (servables.Accepted accepted) begun settings steps a b begins w
 has_freshly_late (servables.Unchecked configuration) begun settings steps a b begins walks tells orderly sound = tt
 
 -- nothing was counted at first
-nothing_done_by : (servable : Servable) (begun : Beginnings) (settings : Settings) (core : ServedCore) → BeginsBy servable begun settings core → core.tally ≡ nothing_done
+nothing_done_by : (servable : Servable) (begun : Beginnings) (settings : Settings) (core : ServedCore) → BeginsBy servable begun settings core → MakesPlaces nothing_done core.tally
 nothing_done_by (servables.Accepted accepted) begun settings core begins = begins.tally
 nothing_done_by (servables.Unchecked configuration) begun settings core begins = begins.tally
 
-has_counted : (steps : List Step) (first last : ServedCore) → first.tally ≡ nothing_done → Walks steps first last → AreCounted steps last.tally
-has_counted steps first last none walks = subst (λ l. AreCounted l last.tally) (append-nil steps) (steps_are_counted.goes_on steps [] first last walks (subst (AreCounted []) (sym none) steps_are_counted.begins))
+has_counted : (steps : List Step) (first last : ServedCore) → MakesPlaces nothing_done first.tally → Walks steps first last → AreCounted steps last.tally
+has_counted steps first last none walks = subst (λ l. AreCounted l last.tally) (append-nil steps) (steps_are_counted.goes_on steps [] first last walks (steps_are_counted.begins first.tally none))
 
 -- the results too, of calls that were out
-has_results : (steps : List Step) (first last : ServedCore) → first.tally ≡ nothing_done → Walks steps first last → TellsCallsOut [] first → IsOrderly steps → ResultsAreCounted steps last.tally
+has_results : (steps : List Step) (first last : ServedCore) → MakesPlaces nothing_done first.tally → Walks steps first last → TellsCallsOut [] first → IsOrderly steps → ResultsAreCounted steps last.tally
 has_results steps first last none walks tells orderly =
     subst (λ l. ResultsAreCounted l last.tally) (append-nil steps)
-    (steps_are_counted.results_go_on steps [] first last walks tells (subst IsOrderly (sym (append-nil steps)) orderly) (subst (ResultsAreCounted []) (sym none) steps_are_counted.results_begin))
+    (steps_are_counted.results_go_on steps [] first last walks tells (subst IsOrderly (sym (append-nil steps)) orderly) (steps_are_counted.results_begin first.tally none))
+
+-- and the calls of each server
+has_counted_by_server :
+    (steps : List Step) (first last : ServedCore) → MakesPlaces nothing_done first.tally → Walks steps first last → TellsCallsOut [] first → IsOrderly steps → AreCountedByServer steps last.tally
+has_counted_by_server steps first last none walks tells orderly =
+    subst (λ l. AreCountedByServer l last.tally) (append-nil steps)
+    (steps_are_counted_by_server.goes_on steps [] first last walks tells (subst IsOrderly (sym (append-nil steps)) orderly) (steps_are_counted_by_server.begins first.tally none))
 
 pub has_served :
     (servable : Servable) (text : List ℕ) (begun : Beginnings) (settings : Settings) (first last : ProxyEnd Sockets) → BeginsServing servable begun settings first → ServesFrom history_of settings text first last → LogsAreFresh last.core.value
@@ -111,6 +120,7 @@ has_served servable text begun settings first last begins from fresh sound =
       late = has_freshly_late servable begun shared g.steps first.core.value last.core.value begins.core.2 g.walks begins.agrees.calls agrees.orderly sound;
       counts = has_counted g.steps first.core.value last.core.value (nothing_done_by servable begun shared first.core.value begins.core.2) g.walks;
       results = has_results g.steps first.core.value last.core.value (nothing_done_by servable begun shared first.core.value begins.core.2) g.walks begins.agrees.calls agrees.orderly;
+      by_server = has_counted_by_server g.steps first.core.value last.core.value (nothing_done_by servable begun shared first.core.value begins.core.2) g.walks begins.agrees.calls agrees.orderly;
     }
 
 -- its text is that with which it began

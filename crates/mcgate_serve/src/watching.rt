@@ -138,9 +138,8 @@ fn numbers_of_ops(
 fn commands_of<W: Wire>(alloc: Global, end: &ProxyEnd<W>) -> Result<Vec<CommandNumbers>, AllocError>
     ensures { IfOk result (λ commands. flat_map command_counts commands.items ≡ flat_map (op_counts end.now.core.value.tally) all_ops) }
 {
-    let tally = end.core_tally();
     let ops = Op::all();
-    numbers_of_ops(alloc, &tally, &ops)
+    numbers_of_ops(alloc, end.core_tally(), &ops)
 }
 
 // What its core counts of calls, of all servers together.

@@ -8,6 +8,7 @@ use Rattle.mc_types.specs.declared.ask.Op.TheVariants as ops
 use Rattle.mc_types.specs.declared.ask.Ask.{Ask}
 use Rattle.mc_types.specs.declared.call.Outcome.{Outcome}
 use Rattle.mc_types.specs.declared.call.Outcome.TheVariants.{Answered, Failed}
+use Rattle.route_json.specs.Configuration.{Configuration}
 use Rattle.route_tree.specs.Operation.{op_number, same_op}
 use Rattle.core_proxy.specs.declared.fault.CoreFault.{CoreFault}
 use Rattle.core_proxy.specs.declared.fault.CoreFault.TheVariants as faults
@@ -20,7 +21,7 @@ use Rattle.core_commands.specs.declared.ticket.Ticket.{Ticket}
 use Rattle.core_accepted.specs.declared.served.ServedCore.{ServedCore}
 use Rattle.core_accepted.specs.declared.tally.CoreTally.{CoreTally}
 use Rattle.core_accepted.specs.Results.{PollStops, SettleStops, IsSettled}
-use Rattle.core_accepted.specs.Tallies.{ReplyKind, TellsError, ShowsItem, Acknowledges, TellsOther, reply_kind, one_more, more_at, with_reply, with_note, with_poll, with_call, with_bad_message, with_outcome, with_client, with_refusal, nothing_done, of_op}
+use Rattle.core_accepted.specs.Tallies.{ReplyKind, TellsError, ShowsItem, Acknowledges, TellsOther, reply_kind, one_more, more_at, with_reply, with_note, with_poll, with_call, with_bad_message, with_outcome, with_client, with_refusal, nothing_done, of_op, MakesPlaces}
 use Rattle.serve_links.specs.CoreSteps.{Step, Opened, NotOpened, Fed, Polled, Stopped, Settled, Gave, Closed, LeftLine, Loaded, Spelled, Does, Walks}
 use Rattle.serve_links.specs.Called.{call_in, TellsCallsOut}
 use Rattle.serve_links.specs.Talks.{MayComeNext, IsOrderly}
@@ -47,7 +48,7 @@ place_within ops.Decr = omega arith
 place_within ops.Touch = omega arith
 
 -- the count at a place after one more at another, or at the same
-at_place : (counts : List ℕ) (i j n : ℕ) (b : Bool) → nat_eq i j ≡ b → i < length counts → slice_index counts j ≡ counted n → slice_index (more_at i counts) j ≡ counted (if b then n + 1 else n)
+pub at_place : (counts : List ℕ) (i j n : ℕ) (b : Bool) → nat_eq i j ≡ b → i < length counts → slice_index counts j ≡ counted n → slice_index (more_at i counts) j ≡ counted (if b then n + 1 else n)
 at_place counts i j n true same within was =
     let e : i ≡ j = eqb-true i j same in
     subst (λ k. slice_index (more_at i counts) k ≡ counted (n + 1)) e
@@ -90,7 +91,7 @@ ended_counted Acknowledges done n tally was = one_more_counted n tally.ended was
 ended_counted TellsOther done n tally was = one_more_counted n tally.ended was
 
 -- all others are as they were
-others_kept :
+pub others_kept :
     (said : ReplyKind) (done : Op) (tally : CoreTally)
     → ((with_reply said done tally).opened ≡ tally.opened) × ((with_reply said done tally).refused ≡ tally.refused) × ((with_reply said done tally).calls ≡ tally.calls)
     × ((with_reply said done tally).answered ≡ tally.answered) × ((with_reply said done tally).failed ≡ tally.failed) × ((with_reply said done tally).bad_messages ≡ tally.bad_messages)
@@ -152,10 +153,10 @@ did client note past old new is was = subst (AreCounted (Polled client (polls.Di
   places = places_kept (reply_kind note) note.ask.op old was.places;
 })
 
-tally_same : (a b : ServedCore) → b ≡ a → b.tally ≡ a.tally
+pub tally_same : (a b : ServedCore) → b ≡ a → b.tally ≡ a.tally
 tally_same a b same = ap (λ (x : ServedCore). x.tally) same
 
-stopped_same : (client : ℕ) (fault : CoreFault) (a b : ServedCore) → PollStops a client fault b → b.tally ≡ a.tally
+pub stopped_same : (client : ℕ) (fault : CoreFault) (a b : ServedCore) → PollStops a client fault b → b.tally ≡ a.tally
 stopped_same client faults.NoMemory a b stops = stops.goes.tally
 stopped_same client faults.NoClient a b stops = tally_same a b stops
 stopped_same client faults.Spent a b stops = tally_same a b stops
@@ -164,7 +165,7 @@ stopped_same client faults.InputFull a b stops = tally_same a b stops
 stopped_same client faults.UnderWay a b stops = tally_same a b stops
 stopped_same client faults.NoTicket a b stops = tally_same a b stops
 
-called_out : (client : ℕ) (ticket : Ticket) (past : List Step) (old new : CoreTally) → new ≡ with_call old → AreCounted past old → AreCounted (Polled client (polls.Call ticket) ∷ past) new
+called_out : (client : ℕ) (ticket : Ticket) (past : List Step) (old new : CoreTally) → new ≡ with_call ticket.server old → AreCounted past old → AreCounted (Polled client (polls.Call ticket) ∷ past) new
 called_out client ticket past old new is was = subst (AreCounted (Polled client (polls.Call ticket) ∷ past)) (sym is) (record {
   opened = was.opened;
   refused = was.refused;
@@ -187,17 +188,29 @@ refused_message client past old new is was = subst (AreCounted (Polled client po
 })
 
 -- by a result nothing else is counted
-had : (number : ℕ) (outcome : Outcome) (past : List Step) (old new : CoreTally) → new ≡ with_outcome outcome old → AreCounted past old → AreCounted (Settled number outcome ∷ past) new
-had number (Answered answer) past old new is was =
+had : (number : ℕ) (outcome : Outcome) (server : Option ℕ) (past : List Step) (old new : CoreTally) → new ≡ with_outcome server outcome old → AreCounted past old → AreCounted (Settled number outcome ∷ past) new
+had number (Answered answer) None past old new is was =
     subst (AreCounted (Settled number (Answered answer) ∷ past)) (sym is)
     (record { opened = was.opened; refused = was.refused; bad_messages = was.bad_messages; ended = was.ended; calls = was.calls; replies = λ op kind. was.replies op kind; places = was.places })
-had number Failed past old new is was =
+had number (Answered answer) (Some server) past old new is was =
+    subst (AreCounted (Settled number (Answered answer) ∷ past)) (sym is)
+    (record { opened = was.opened; refused = was.refused; bad_messages = was.bad_messages; ended = was.ended; calls = was.calls; replies = λ op kind. was.replies op kind; places = was.places })
+had number Failed None past old new is was =
     subst (AreCounted (Settled number Failed ∷ past)) (sym is)
+    (record { opened = was.opened; refused = was.refused; bad_messages = was.bad_messages; ended = was.ended; calls = was.calls; replies = λ op kind. was.replies op kind; places = was.places })
+had number Failed (Some server) past old new is was =
+    subst (AreCounted (Settled number Failed ∷ past)) (sym is)
+    (record { opened = was.opened; refused = was.refused; bad_messages = was.bad_messages; ended = was.ended; calls = was.calls; replies = λ op kind. was.replies op kind; places = was.places })
+
+-- by a load places come alone
+loaded : (configuration : Configuration) (generation : ℕ) (past : List Step) (old new : CoreTally) → MakesPlaces old new → AreCounted past old → AreCounted (Loaded configuration generation ∷ past) new
+loaded configuration generation past old new makes was =
+    subst (AreCounted (Loaded configuration generation ∷ past)) (sym makes.rest)
     (record { opened = was.opened; refused = was.refused; bad_messages = was.bad_messages; ended = was.ended; calls = was.calls; replies = λ op kind. was.replies op kind; places = was.places })
 
 settle_stopped :
     (number : ℕ) (outcome : Outcome) (fault : CoreFault) (past : List Step) (a b : ServedCore) → SettleStops a number outcome fault b → AreCounted past a.tally → AreCounted (Settled number outcome ∷ past) b.tally
-settle_stopped number outcome faults.NoMemory past a b stops was = had number outcome past a.tally b.tally stops.tally was
+settle_stopped number outcome faults.NoMemory past a b stops was = had number outcome stops.counts.server past a.tally b.tally stops.counts.tally was
 settle_stopped number outcome faults.NoClient past a b stops was = absurd stops
 settle_stopped number outcome faults.Spent past a b stops was = absurd stops
 settle_stopped number outcome faults.TooManyClients past a b stops was = absurd stops
@@ -206,7 +219,7 @@ settle_stopped number outcome faults.UnderWay past a b stops was = absurd stops
 settle_stopped number outcome faults.NoTicket past a b stops was = kept (Settled number outcome) past a.tally b.tally refl refl refl refl refl (λ op kind. refl) (tally_same a b stops.1) was
 
 settled : (number : ℕ) (outcome : Outcome) (past : List Step) (a b : ServedCore) → IsSettled a number outcome b → AreCounted past a.tally → AreCounted (Settled number outcome ∷ past) b.tally
-settled number outcome past a b (inl takes) was = had number outcome past a.tally b.tally takes.tally was
+settled number outcome past a b (inl takes) was = had number outcome takes.counts.server past a.tally b.tally takes.counts.tally was
 settled number outcome past a b (inr stops) was = settle_stopped number outcome stops.0 past a b stops.1 was
 
 polled : (client : ℕ) (poll : Poll) (past : List Step) (a b : ServedCore) → Does (Polled client poll) a b → AreCounted past a.tally → AreCounted (Polled client poll ∷ past) b.tally
@@ -230,7 +243,7 @@ step_counted (Settled number outcome) past a b does was = settled number outcome
 step_counted (Gave client bytes) past a b does was = kept (Gave client bytes) past a.tally b.tally refl refl refl refl refl (λ op kind. refl) does.1.tally was
 step_counted (Closed client) past a b does was = kept (Closed client) past a.tally b.tally refl refl refl refl refl (λ op kind. refl) does.2.tally was
 step_counted (LeftLine client) past a b does was = kept (LeftLine client) past a.tally b.tally refl refl refl refl refl (λ op kind. refl) does.1.tally was
-step_counted (Loaded configuration generation) past a b does was = kept (Loaded configuration generation) past a.tally b.tally refl refl refl refl refl (λ op kind. refl) does.tally was
+step_counted (Loaded configuration generation) past a b does was = loaded configuration generation past a.tally b.tally does.tally was
 step_counted (Spelled at number ask answer bytes) past a b does was = kept (Spelled at number ask answer bytes) past a.tally b.tally refl refl refl refl refl (λ op kind. refl) (tally_same a b does.0) was
 step_counted step past a b does was = kept step past a.tally b.tally refl refl refl refl refl (λ op kind. refl) (tally_same a b does) was
 
@@ -265,19 +278,26 @@ poll_kept polls.Queued tally = (refl, refl)
 poll_kept polls.Busy tally = (refl, refl)
 
 -- a call had this outcome
-had_result : (number : ℕ) (outcome : Outcome) (past : List Step) (old new : CoreTally) → new ≡ with_outcome outcome old → ResultsAreCounted past old → ResultsAreCounted (Settled number outcome ∷ past) new
-had_result number (Answered answer) past old new is was =
+had_result : (number : ℕ) (outcome : Outcome) (server : Option ℕ) (past : List Step) (old new : CoreTally) → new ≡ with_outcome server outcome old → ResultsAreCounted past old → ResultsAreCounted (Settled number outcome ∷ past) new
+had_result number (Answered answer) None past old new is was =
     subst (ResultsAreCounted (Settled number (Answered answer) ∷ past)) (sym is) (record { answered = one_more_counted (number_of answers_one past) old.answered was.answered; failed = was.failed })
-had_result number Failed past old new is was =
+had_result number (Answered answer) (Some server) past old new is was =
+    subst (ResultsAreCounted (Settled number (Answered answer) ∷ past)) (sym is) (record { answered = one_more_counted (number_of answers_one past) old.answered was.answered; failed = was.failed })
+had_result number Failed None past old new is was =
+    subst (ResultsAreCounted (Settled number Failed ∷ past)) (sym is) (record { answered = was.answered; failed = one_more_counted (number_of fails_one past) old.failed was.failed })
+had_result number Failed (Some server) past old new is was =
     subst (ResultsAreCounted (Settled number Failed ∷ past)) (sym is) (record { answered = was.answered; failed = one_more_counted (number_of fails_one past) old.failed was.failed })
 
-not_none : {call : ℕ × Ask} → ◌≡◌ {A = Option (ℕ × Ask)} None (Some call) → ⊥
+result_loaded : (configuration : Configuration) (generation : ℕ) (past : List Step) (old new : CoreTally) → MakesPlaces old new → ResultsAreCounted past old → ResultsAreCounted (Loaded configuration generation ∷ past) new
+result_loaded configuration generation past old new makes was = subst (ResultsAreCounted (Loaded configuration generation ∷ past)) (sym makes.rest) (record { answered = was.answered; failed = was.failed })
+
+pub not_none : {call : ℕ × Ask} → ◌≡◌ {A = Option (ℕ × Ask)} None (Some call) → ⊥
 not_none e = cc
 
 result_stopped :
     (number : ℕ) (outcome : Outcome) (fault : CoreFault) (past : List Step) (a b : ServedCore) (call : ℕ × Ask) → called a.core number ≡ Some call → SettleStops a number outcome fault b → ResultsAreCounted past a.tally
     → ResultsAreCounted (Settled number outcome ∷ past) b.tally
-result_stopped number outcome faults.NoMemory past a b call is stops was = had_result number outcome past a.tally b.tally stops.tally was
+result_stopped number outcome faults.NoMemory past a b call is stops was = had_result number outcome stops.counts.server past a.tally b.tally stops.counts.tally was
 result_stopped number outcome faults.NoClient past a b call is stops was = absurd stops
 result_stopped number outcome faults.Spent past a b call is stops was = absurd stops
 result_stopped number outcome faults.TooManyClients past a b call is stops was = absurd stops
@@ -289,7 +309,7 @@ result_stopped number outcome faults.NoTicket past a b call is stops was = absur
 result_settled :
     (number : ℕ) (outcome : Outcome) (past : List Step) (a b : ServedCore) (call : ℕ × Ask) → called a.core number ≡ Some call → IsSettled a number outcome b → ResultsAreCounted past a.tally
     → ResultsAreCounted (Settled number outcome ∷ past) b.tally
-result_settled number outcome past a b call is (inl takes) was = had_result number outcome past a.tally b.tally takes.tally was
+result_settled number outcome past a b call is (inl takes) was = had_result number outcome takes.counts.server past a.tally b.tally takes.counts.tally was
 result_settled number outcome past a b call is (inr stops) was = result_stopped number outcome stops.0 past a b call is stops.1 was
 
 result_counted : (step : Step) (past : List Step) (a b : ServedCore) → TellsCallsOut past a → MayComeNext step past → Does step a b → ResultsAreCounted past a.tally → ResultsAreCounted (step ∷ past) b.tally
@@ -302,7 +322,7 @@ result_counted (Stopped client fault) past a b tells may does was = by_none (Sto
 result_counted (Gave client bytes) past a b tells may does was = by_none (Gave client bytes) past a.tally b.tally refl refl does.1.tally was
 result_counted (Closed client) past a b tells may does was = by_none (Closed client) past a.tally b.tally refl refl does.2.tally was
 result_counted (LeftLine client) past a b tells may does was = by_none (LeftLine client) past a.tally b.tally refl refl does.1.tally was
-result_counted (Loaded configuration generation) past a b tells may does was = by_none (Loaded configuration generation) past a.tally b.tally refl refl does.tally was
+result_counted (Loaded configuration generation) past a b tells may does was = result_loaded configuration generation past a.tally b.tally does.tally was
 result_counted (Spelled at number ask answer bytes) past a b tells may does was = by_none (Spelled at number ask answer bytes) past a.tally b.tally refl refl (tally_same a b does.0) was
 result_counted step past a b tells may does was = by_none step past a.tally b.tally refl refl (tally_same a b does) was
 
@@ -335,10 +355,11 @@ none_counted op ShowsItem = none_at op
 none_counted op Acknowledges = none_at op
 none_counted op TellsOther = none_at op
 
+begins_counted : (tally : CoreTally) → MakesPlaces nothing_done tally → AreCounted [] tally
+begins_counted tally makes = subst (AreCounted []) (sym makes.rest) (record { opened = refl; refused = refl; bad_messages = refl; ended = refl; calls = refl; replies = none_counted; places = (refl, refl, refl, refl) })
+
+begins_results : (tally : CoreTally) → MakesPlaces nothing_done tally → ResultsAreCounted [] tally
+begins_results tally makes = subst (ResultsAreCounted []) (sym makes.rest) (record { answered = refl; failed = refl })
+
 pub steps_are_counted : StepsAreCounted
-steps_are_counted = record {
-  begins = record { opened = refl; refused = refl; bad_messages = refl; ended = refl; calls = refl; replies = none_counted; places = (refl, refl, refl, refl) };
-  goes_on = walk_counted;
-  results_begin = record { answered = refl; failed = refl };
-  results_go_on = walk_results;
-}
+steps_are_counted = record { begins = begins_counted; goes_on = walk_counted; results_begin = begins_results; results_go_on = walk_results }

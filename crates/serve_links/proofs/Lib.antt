@@ -24,3 +24,4 @@ pub mod InOrder
 pub mod Alike
 pub mod LateWalks
 pub mod Counts
+pub mod ByServer

@@ -7,7 +7,7 @@ use Rattle.core_proxy.specs.declared.note.Poll.TheVariants as polls
 use Rattle.core_accepted.specs.declared.served.ServedCore.{ServedCore}
 use Rattle.core_accepted.specs.declared.tally.CoreTally.{CoreTally}
 use Rattle.core_accepted.specs.declared.tally.OpTally.{OpTally}
-use Rattle.core_accepted.specs.Tallies.{ReplyKind, TellsError, ShowsItem, Acknowledges, TellsOther, reply_kind, nothing_done, of_op}
+use Rattle.core_accepted.specs.Tallies.{ReplyKind, TellsError, ShowsItem, Acknowledges, TellsOther, reply_kind, nothing_done, of_op, MakesPlaces}
 use Rattle.serve_links.specs.CoreSteps.{Step, Opened, NotOpened, Polled, Settled, Walks}
 use Rattle.serve_links.specs.Called.{TellsCallsOut}
 use Rattle.serve_links.specs.Talks.{IsOrderly}
@@ -93,7 +93,7 @@ pub record ResultsAreCounted (steps : List Step) (tally : CoreTally) : Type 0 wh
 
 -- laws of all walks: a core that is new has counted none; and one that has counted the steps before a walk has counted those of the walk after it. So it is with the results of calls where those are settled that are out, as in an orderly walk; a result for which no call was out isn't counted
 pub record StepsAreCounted : Type 0 where
-  pub begins : AreCounted [] nothing_done
+  pub begins : (tally : CoreTally) → MakesPlaces nothing_done tally → AreCounted [] tally
   pub goes_on : (steps past : List Step) (old new : ServedCore) → Walks steps old new → AreCounted past old.tally → AreCounted (steps ++ past) new.tally
-  pub results_begin : ResultsAreCounted [] nothing_done
+  pub results_begin : (tally : CoreTally) → MakesPlaces nothing_done tally → ResultsAreCounted [] tally
   pub results_go_on : (steps past : List Step) (old new : ServedCore) → Walks steps old new → TellsCallsOut past old → IsOrderly (steps ++ past) → ResultsAreCounted past old.tally → ResultsAreCounted (steps ++ past) new.tally

@@ -15,3 +15,4 @@ pub mod Shut
 pub mod Story
 pub mod InOrder
 pub mod Counts
+pub mod ByServer

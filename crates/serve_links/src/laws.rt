@@ -2,6 +2,7 @@
 
 ghost use Rattle.serve_links.specs.CoreSteps.{IsOfTurn, IsFailure, IsSending, IsAnyCall};
 ghost use Rattle.serve_links.specs.Called.{WalksTellCalls};
+ghost use Rattle.serve_links.specs.ByServer.{StepsAreCountedByServer};
 ghost use Rattle.serve_links.specs.Counts.{StepsAreCounted};
 ghost use Rattle.serve_links.specs.InOrder.{ConnectionsAreInOrder, WalksAreFreshLate};
 ghost use Rattle.serve_links.specs.Story.{StoriesGoOn};
@@ -26,6 +27,13 @@ pub fn walks_tell_calls()
 /// calls they gave out. Where each call that was settled was out, as in an orderly walk, so is how many were answered and how many have failed.
 pub fn steps_are_counted()
     ensures { StepsAreCounted }
+{}
+
+/// The same of each server: in an orderly walk, what a core counts of a server's calls is how many of it the polls gave out, and how many of those were
+/// answered and have failed. It is so where no call was counted at no server ([`core_accepted::CoreTally::unplaced`]): while memory for the counts was
+/// refused, or for a server that no configuration has.
+pub fn steps_are_counted_by_server()
+    ensures { StepsAreCountedByServer }
 {}
 
 /// Where what is done to a server's connections is in order, a new one is begun only where none is there: so, if a server applies what came over

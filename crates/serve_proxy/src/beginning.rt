@@ -39,14 +39,15 @@ pub fn fresh_core(
     Ok(Box::new(alloc, core)?)
 }
 
-/// A new core on a tree of which no gate was asked.
+/// A new core on a tree of which no gate was asked, for so many servers.
 pub fn unchecked_core(
     alloc: Global,
     tree: Tree,
+    servers: usize,
     settings: Settings,
 ) -> Result<Box<ServedCore>, AllocError>
     ensures { IfOk result (λ core. BeginsUnchecked tree settings core.value) }
 {
-    let core = ServedCore::unchecked(alloc, tree, limits_of(settings));
+    let core = ServedCore::unchecked(alloc, tree, servers, limits_of(settings));
     Ok(Box::new(alloc, core)?)
 }

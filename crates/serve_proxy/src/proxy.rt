@@ -125,7 +125,7 @@ impl<W: Wire + Drop> ProxyEnd<W> {
         ensures texts { IfOk result (λ end. texts_of end.sockets.links.all.items ≡ servers.now) }
     {
         let links = Links::to(alloc, servers, settings)?;
-        let core = unchecked_core(alloc, tree, settings)?;
+        let core = unchecked_core(alloc, tree, servers.len(), settings)?;
         Ok(ProxyEnd::of(alloc, core, wire, links))
     }
 }
@@ -302,9 +302,10 @@ impl<W: Wire> ProxyEnd<W> {
     }
 
     /// What its core has done so far: clients opened and turned away, messages refused, commands ended, in all and of each operation by their
-    /// replies, and calls given out, answered and failed. Each count is of just that, as far as it goes ([`serve_links::laws::steps_are_counted`]).
-    pub fn core_tally(&self) -> CoreTally
-        ensures { result ≡ self.now.core.value.tally }
+    /// replies, and calls given out, answered and failed, in all and of each server. Each count is of just that, as far as it goes
+    /// ([`serve_links::laws::steps_are_counted`], [`serve_links::laws::steps_are_counted_by_server`]).
+    pub fn core_tally(&self) -> &CoreTally
+        ensures { result.now ≡ self.now.core.value.tally }
     {
         self.core.tally()
     }

@@ -1,10 +1,8 @@
-use Rattle.core_accepted.proofs.NextTree.{next_loaded, any_loaded}
+use Rattle.core_accepted.proofs.NextTree.{loaded_with_places, refused_without_places}
 use Rattle.core_accepted.proofs.served.ServedCore.load.Goals as goal
 
-pub returns-in-Some-clause-loaded : goal.returns-in-Some-clause-loaded
-returns-in-Some-clause-loaded c =
-    let e = c.load_accepted.ensures in
-    next_loaded c.args.self.now c.load_accepted.new.core c.in-Some.generations c.load_accepted.new.generations c.args.config c.load_accepted.result c.in-Some.is e.taken e.number e.sound e.loaded
+pub returns-clause-loaded : goal.returns-clause-loaded
+returns-clause-loaded c = loaded_with_places c.args.self.now c.take-loaded.new.self c.make_places.new.self c.args.config c.take-loaded.result c.take-loaded.ensures.loaded c.make_places.ensures.ok
 
-pub returns-in-None-clause-loaded : goal.returns-in-None-clause-loaded
-returns-in-None-clause-loaded c = any_loaded c.args.self.now c.load_any.new.core c.args.config c.load_any.result c.in-None.is c.load_any.ensures.number c.load_any.ensures.loaded
+pub returns-clause-refused : goal.returns-clause-refused
+returns-clause-refused c = refused_without_places c.args.self.now c.take-loaded.new.self c.make_places.new.self c.args.config c.take-loaded.result c.take-loaded.ensures.refused c.make_places.ensures.err
