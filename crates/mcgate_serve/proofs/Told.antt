@@ -1,16 +1,19 @@
 -- What stands at the names of numbers is what the core counts.
-use Rattle.std.proofs.Common.{ℕ, List, [], ◌∷◌, codes, subst, Result, Ok, Err}
+use Rattle.std.proofs.Common.{◌≡◌, ℕ, List, [], ◌∷◌, ◌++◌, codes, subst, sym, Result, Ok, Err}
 use Rattle.std.specs.Prelude.{IfOk}
+use Rattle.route_json.specs.Servers.{Addresses}
+use Rattle.route_tree.specs.Each.{Each}
 use Rattle.core_accepted.specs.declared.tally.CoreTally.{CoreTally}
 use Rattle.watch_admin.specs.declared.families.Amount.TheVariants.{Count}
 use Rattle.watch_admin.specs.declared.families.Family.{Family}
 use Rattle.watch_admin.specs.declared.numbers.Numbers.{Numbers}
+use Rattle.watch_admin.specs.declared.numbers.ServerNumbers.{ServerNumbers}
 use Rattle.watch_admin.specs.Told.{Tells, IsAmong, one_labelled}
-use Rattle.mcgate_serve.specs.Told.{FamiliesTell, IsInPrometheus, IsInJson, HasTally, TellsTally, TellsInPrometheus, TellsInJson}
+use Rattle.mcgate_serve.specs.Told.{IsOfServer, AreOfServers, FamiliesTell, IsInPrometheus, IsInJson, HasTally, TellsTally, TellsInPrometheus, TellsInJson}
 
 -- families that tell of numbers which have what a core counts
-pub tells_tally : (tally : CoreTally) (numbers : Numbers) (families : List Family) → HasTally tally numbers → FamiliesTell numbers families → TellsTally tally families
-tells_tally tally numbers families has tell =
+pub tells_tally : (tally : CoreTally) (servers : Addresses) (numbers : Numbers) (families : List Family) → HasTally tally servers numbers → FamiliesTell numbers families → TellsTally tally servers families
+tells_tally tally servers numbers families has tell =
     let opened =
     subst
     (λ n. IsAmong (Tells (codes "mcgate_client_connections_total") (one_labelled (codes "verdict") (codes "accepted") n ∷ one_labelled (codes "verdict") (codes "refused") numbers.clients.refused ∷ [])) families)
@@ -31,22 +34,32 @@ tells_tally tally numbers families has tell =
           subst
           (λ n. IsAmong (Tells (codes "mcgate_calls_total") (one_labelled (codes "outcome") (codes "answered") tally.answered ∷ one_labelled (codes "outcome") (codes "failed") n ∷ [])) families)
           has.failed answered;
+      of_servers = (numbers.servers.items, has.servers_are, tell.servers);
+      unplaced = subst (λ n. IsAmong (Tells (codes "mcgate_calls_unplaced_total") (([], Count n) ∷ [])) families) has.unplaced tell.unplaced;
     }
 
 -- so do their texts
-in_prometheus : (tally : CoreTally) (numbers : Numbers) (text : List ℕ) → HasTally tally numbers → IsInPrometheus numbers text → TellsInPrometheus tally text
-in_prometheus tally numbers text has is = (is.0, tells_tally tally numbers is.0 has is.1, is.2)
+in_prometheus : (tally : CoreTally) (servers : Addresses) (numbers : Numbers) (text : List ℕ) → HasTally tally servers numbers → IsInPrometheus numbers text → TellsInPrometheus tally servers text
+in_prometheus tally servers numbers text has is = (is.0, tells_tally tally servers numbers is.0 has is.1, is.2)
 
-in_json : (tally : CoreTally) (numbers : Numbers) (text : List ℕ) → HasTally tally numbers → IsInJson numbers text → TellsInJson tally text
-in_json tally numbers text has is = (is.0, tells_tally tally numbers is.0 has is.1, is.2)
+in_json : (tally : CoreTally) (servers : Addresses) (numbers : Numbers) (text : List ℕ) → HasTally tally servers numbers → IsInJson numbers text → TellsInJson tally servers text
+in_json tally servers numbers text has is = (is.0, tells_tally tally servers numbers is.0 has is.1, is.2)
 
 -- where a text came
 if_ok : {A E : Type 0} (r : Result A E) (P Q : A → Type 0) → ((a : A) → P a → Q a) → IfOk r P → IfOk r Q
 if_ok (Ok a) P Q f is = f a is
 if_ok (Err e) P Q f is = tt
 
-pub told_in_prometheus : {A E : Type 0} (items : A → List ℕ) (tally : CoreTally) (numbers : Numbers) (r : Result A E) → HasTally tally numbers → IfOk r (λ text. IsInPrometheus numbers (items text)) → IfOk r (λ text. TellsInPrometheus tally (items text))
-told_in_prometheus items tally numbers r has = if_ok r _ _ (λ text. in_prometheus tally numbers (items text) has)
+pub told_in_prometheus : {A E : Type 0} (items : A → List ℕ) (tally : CoreTally) (servers : Addresses) (numbers : Numbers) (r : Result A E) → HasTally tally servers numbers → IfOk r (λ text. IsInPrometheus numbers (items text)) → IfOk r (λ text. TellsInPrometheus tally servers (items text))
+told_in_prometheus items tally servers numbers r has = if_ok r _ _ (λ text. in_prometheus tally servers numbers (items text) has)
 
-pub told_in_json : {A E : Type 0} (items : A → List ℕ) (tally : CoreTally) (numbers : Numbers) (r : Result A E) → HasTally tally numbers → IfOk r (λ text. IsInJson numbers (items text)) → IfOk r (λ text. TellsInJson tally (items text))
-told_in_json items tally numbers r has = if_ok r _ _ (λ text. in_json tally numbers (items text) has)
+pub told_in_json : {A E : Type 0} (items : A → List ℕ) (tally : CoreTally) (servers : Addresses) (numbers : Numbers) (r : Result A E) → HasTally tally servers numbers → IfOk r (λ text. IsInJson numbers (items text)) → IfOk r (λ text. TellsInJson tally servers (items text))
+told_in_json items tally servers numbers r has = if_ok r _ _ (λ text. in_json tally servers numbers (items text) has)
+
+-- one more server
+each_more : {A : Type 0} (P : A → Type 0) (xs : List A) (x : A) → Each P xs → P x → Each P (xs ++ x ∷ [])
+each_more P [] x each is = (is, tt)
+each_more P (y ∷ xs) x each is = (each.0, each_more P xs x each.1 is)
+
+pub server_more : (tally : CoreTally) (servers : Addresses) (old new : List ServerNumbers) (row : ServerNumbers) → new ≡ old ++ row ∷ [] → IsOfServer tally servers row → AreOfServers tally servers old → AreOfServers tally servers new
+server_more tally servers old new row is of are = subst (AreOfServers tally servers) (sym is) (each_more (IsOfServer tally servers) old row are of)

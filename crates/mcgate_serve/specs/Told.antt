@@ -1,16 +1,19 @@
 -- What a proxy that runs tells of what its core counts. Source: mcgate's own.
-use Rattle.std.specs.Prelude.{◌≡◌, ℕ, List, [], ◌∷◌, codes, flat_map}
+use Rattle.std.specs.Prelude.{◌≡◌, ℕ, ◌-◌, List, [], ◌∷◌, Some, codes, flat_map, slice_get, string_bytes}
 use Rattle.mc_types.specs.declared.ask.Op.{Op}
 use Rattle.mc_types.specs.Asks.{all_ops}
+use Rattle.route_tree.specs.Each.{Each}
 use Rattle.gate_gaps.specs.Names.{op_name}
 use Rattle.core_accepted.specs.declared.tally.CoreTally.{CoreTally}
-use Rattle.core_accepted.specs.Tallies.{of_op}
+use Rattle.route_json.specs.Servers.{Addresses}
+use Rattle.core_accepted.specs.Tallies.{of_op, of_server}
 use Rattle.watch_admin.specs.declared.families.Amount.TheVariants.{Count}
 use Rattle.watch_admin.specs.declared.families.Family.{Family}
 use Rattle.watch_admin.specs.declared.numbers.Numbers.{Numbers}
+use Rattle.watch_admin.specs.declared.numbers.ServerNumbers.{ServerNumbers}
 use Rattle.watch_admin.specs.Prometheus.{families_text}
 use Rattle.watch_admin.specs.Json.{object_json}
-use Rattle.watch_admin.specs.Told.{Labelled, Tells, IsAmong, TellsClients, TellsMessages, TellsCommands, TellsCalls, one_labelled, command_count, command_counts}
+use Rattle.watch_admin.specs.Told.{Labelled, Tells, IsAmong, TellsClients, TellsMessages, TellsCommands, TellsCalls, TellsServers, TellsUnplaced, one_labelled, command_count, command_counts}
 
 -- how many commands of an operation have ended with each kind of reply
 abbrev pub op_counts : CoreTally → Op → List Labelled
@@ -27,6 +30,8 @@ pub record FamiliesTell (numbers : Numbers) (families : List Family) : Type 0 wh
   pub messages : TellsMessages numbers.clients families
   pub commands : TellsCommands numbers.commands.items families
   pub calls : TellsCalls numbers.calls families
+  pub servers : TellsServers numbers.servers.items families
+  pub unplaced : TellsUnplaced numbers.calls families
 
 abbrev pub IsInPrometheus : Numbers → List ℕ → Type 0
 IsInPrometheus numbers text = (families : List Family) × FamiliesTell numbers families × (text ≡ families_text families)
@@ -34,8 +39,23 @@ IsInPrometheus numbers text = (families : List Family) × FamiliesTell numbers f
 abbrev pub IsInJson : Numbers → List ℕ → Type 0
 IsInJson numbers text = (families : List Family) × FamiliesTell numbers families × (text ≡ object_json families)
 
--- these numbers have what the core counts
-pub record HasTally (tally : CoreTally) (numbers : Numbers) : Type 0 where
+-- these numbers have what the core counts of the server of this number, under this text; those that failed unsent stand apart
+pub record IsToldOf (tally : CoreTally) (server : ℕ) (text : List ℕ) (numbers : ServerNumbers) : Type 0 where
+  pub text_is : string_bytes numbers.text ≡ text
+  pub made : numbers.made ≡ (of_server tally server).calls
+  pub answered : numbers.answered ≡ (of_server tally server).answered
+  pub failed : numbers.failed ≡ (of_server tally server).failed - numbers.unsent
+
+-- they are of one of these servers, under its text
+abbrev pub IsOfServer : CoreTally → Addresses → ServerNumbers → Type 0
+IsOfServer tally servers numbers = (server : ℕ) × (text : List ℕ) × (slice_get servers server ≡ Some text) × IsToldOf tally server text numbers
+
+-- so is each of them
+abbrev pub AreOfServers : CoreTally → Addresses → List ServerNumbers → Type 0
+AreOfServers tally servers rows = Each (IsOfServer tally servers) rows
+
+-- these numbers have what the core counts, also of servers
+pub record HasTally (tally : CoreTally) (servers : Addresses) (numbers : Numbers) : Type 0 where
   pub opened : numbers.clients.accepted ≡ tally.opened
   pub refused : numbers.clients.refused ≡ tally.refused
   pub bad_messages : numbers.clients.bad_messages ≡ tally.bad_messages
@@ -43,9 +63,11 @@ pub record HasTally (tally : CoreTally) (numbers : Numbers) : Type 0 where
   pub made : numbers.calls.made ≡ tally.calls
   pub answered : numbers.calls.answered ≡ tally.answered
   pub failed : numbers.calls.failed ≡ tally.failed
+  pub unplaced : numbers.calls.unplaced ≡ tally.unplaced
+  pub servers_are : AreOfServers tally servers numbers.servers.items
 
--- what the core counts stands at its names: clients that came, messages that were refused, commands that have ended, and calls
-pub record TellsTally (tally : CoreTally) (families : List Family) : Type 0 where
+-- what the core counts stands at its names: clients that came, messages that were refused, commands that have ended, and calls, also those of servers, each under its text, and how often one is counted at none
+pub record TellsTally (tally : CoreTally) (servers : Addresses) (families : List Family) : Type 0 where
   pub clients :
       IsAmong
       (Tells
@@ -61,10 +83,12 @@ pub record TellsTally (tally : CoreTally) (families : List Family) : Type 0 wher
       (codes "mcgate_calls_total")
       (one_labelled (codes "outcome") (codes "answered") tally.answered ∷ one_labelled (codes "outcome") (codes "failed") tally.failed ∷ []))
       families
+  pub of_servers : (rows : List ServerNumbers) × AreOfServers tally servers rows × TellsServers rows families
+  pub unplaced : IsAmong (Tells (codes "mcgate_calls_unplaced_total") (([], Count tally.unplaced) ∷ [])) families
 
 -- the text is that of such families, in Prometheus' format or in JSON
-abbrev pub TellsInPrometheus : CoreTally → List ℕ → Type 0
-TellsInPrometheus tally text = (families : List Family) × TellsTally tally families × (text ≡ families_text families)
+abbrev pub TellsInPrometheus : CoreTally → Addresses → List ℕ → Type 0
+TellsInPrometheus tally servers text = (families : List Family) × TellsTally tally servers families × (text ≡ families_text families)
 
-abbrev pub TellsInJson : CoreTally → List ℕ → Type 0
-TellsInJson tally text = (families : List Family) × TellsTally tally families × (text ≡ object_json families)
+abbrev pub TellsInJson : CoreTally → Addresses → List ℕ → Type 0
+TellsInJson tally servers text = (families : List Family) × TellsTally tally servers families × (text ≡ object_json families)

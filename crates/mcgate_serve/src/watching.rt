@@ -1,17 +1,17 @@
 //! What a proxy that runs tells over HTTP of what it counts.
 
-ghost use Rattle.std.specs.Prelude.{◌≡◌, IfOk, flat_map};
+ghost use Rattle.std.specs.Prelude.{◌≡◌, IfOk, OnOk, flat_map};
 ghost use Rattle.mc_types.specs.Asks.{all_ops};
 ghost use Rattle.watch_admin.specs.Told.{command_counts};
 ghost use Rattle.watch_admin.specs.declared.http.request.Page.TheVariants.{Metrics, Stats};
-ghost use Rattle.mcgate_serve.specs.Told.{op_counts, HasTally, IsInPrometheus, IsInJson, TellsInPrometheus, TellsInJson};
+ghost use Rattle.mcgate_serve.specs.Told.{op_counts, IsToldOf, AreOfServers, HasTally, IsInPrometheus, IsInJson, TellsInPrometheus, TellsInJson};
 
 use crate::build::IS_PROVED;
 use crate::seen::{LastFailure, Seen};
 use crate::serving::resolve;
 use core_accepted::CoreTally;
 use gate_gaps::names::op_name;
-use mc_types::{Op, ServerId};
+use mc_types::Op;
 use route_json::addresses::Servers;
 use serve_links::{CAUSES, Link, SPANS};
 use serve_proxy::{DEPARTURES, ProxyEnd, text_at};
@@ -147,12 +147,14 @@ fn calls_of<W: Wire>(end: &ProxyEnd<W>) -> CallNumbers
     ensures made { result.made ≡ end.now.core.value.tally.calls }
     ensures answered { result.answered ≡ end.now.core.value.tally.answered }
     ensures failed { result.failed ≡ end.now.core.value.tally.failed }
+    ensures unplaced { result.unplaced ≡ end.now.core.value.tally.unplaced }
 {
     let of_core = end.core_tally();
     CallNumbers {
         made: of_core.calls,
         answered: of_core.answered,
         failed: of_core.failed,
+        unplaced: of_core.unplaced,
     }
 }
 
@@ -216,20 +218,22 @@ fn limits_told(link: &Link) -> LimitNumbers {
     }
 }
 
-// What is counted of the server of this number and text.
+// What is counted of the server of this number and text, to which this is the link.
 fn server_of<W: Wire>(
     alloc: Global,
     end: &ProxyEnd<W>,
     seen: &Seen,
     server: usize,
     text: &str,
-) -> Result<Option<ServerNumbers>, AllocError> {
-    let Some(link) = end.link(server) else {
-        return Ok(None);
-    };
+    link: &Link,
+) -> Result<ServerNumbers, AllocError>
+    ensures { IfOk result (IsToldOf end.now.core.value.tally server text.now) }
+{
+    let of_core = end.core_tally().of_server(server);
     let calls = link.calls.tally();
+    let unsent = link.tally.unsent;
     let is_unknown = seen.is_unknown(text);
-    Ok(Some(ServerNumbers {
+    Ok(ServerNumbers {
         text: String::from_str(alloc, text)?,
         limits: limits_told(link),
         is_up: link.is_connected && !link.is_late(),
@@ -239,13 +243,36 @@ fn server_of<W: Wire>(
         connections: link.tally.stood,
         calls_out: link.calls.len() as u64,
         failures: failures_by_cause(alloc, link)?,
-        answered: calls.answered,
+        made: of_core.calls,
+        answered: of_core.answered,
         errors: link.calls.errors(),
-        failed: calls.failed,
-        unsent: link.tally.unsent,
+        failed: of_core.failed.saturating_sub(unsent),
+        unsent,
+        timed: calls.answered,
         answer_micros: calls.micros,
         spans: spans_of(alloc, calls.spans())?,
-    }))
+    })
+}
+
+// Adds what is counted of the server of this number, if it has a text and a link.
+fn add_server<W: Wire>(
+    alloc: Global,
+    end: &ProxyEnd<W>,
+    servers: &Servers,
+    seen: &Seen,
+    server: usize,
+    told: &mut Vec<ServerNumbers>,
+) -> Result<(), AllocError>
+    ensures { OnOk result (AreOfServers end.now.core.value.tally servers.now told.old.items → AreOfServers end.now.core.value.tally servers.now told.new.items) }
+{
+    let Some(text) = text_at(servers, server) else {
+        return Ok(());
+    };
+    let Some(link) = end.link(server) else {
+        return Ok(());
+    };
+    told.push(server_of(alloc, end, seen, server, text, link)?)?;
+    Ok(())
 }
 
 fn servers_of<W: Wire>(
@@ -253,17 +280,12 @@ fn servers_of<W: Wire>(
     end: &ProxyEnd<W>,
     servers: &Servers,
     seen: &Seen,
-) -> Result<Vec<ServerNumbers>, AllocError> {
+) -> Result<Vec<ServerNumbers>, AllocError>
+    ensures { IfOk result (λ told. AreOfServers end.now.core.value.tally servers.now told.items) }
+{
     let mut told = Vec::new(alloc);
     for server in 0..servers.len() {
-        let Ok(number) = u32::try_from(server) else {
-            return Ok(told);
-        };
-        if let Some(text) = servers.get(ServerId::new(number)) {
-            if let Some(numbers) = server_of(alloc, end, seen, server, text)? {
-                told.push(numbers)?;
-            }
-        }
+        add_server(alloc, end, servers, seen, server, &mut told)?;
     }
     Ok(told)
 }
@@ -284,7 +306,7 @@ fn numbers_of<R: Files + AllocGlobal, W: Wire>(
     seen: &Seen,
     times: Times,
 ) -> io::Result<Numbers>
-    ensures { IfOk result (HasTally end.now.core.value.tally) }
+    ensures { IfOk result (HasTally end.now.core.value.tally servers.now) }
 {
     let used = process_use(rt);
     Ok(Numbers {
@@ -309,7 +331,7 @@ fn numbers_of<R: Files + AllocGlobal, W: Wire>(
     })
 }
 
-/// All of that as the text of a page: what the core counts stands at its names.
+/// All of that as the text of a page: what the core counts stands at its names, that of a server at the server's text.
 pub fn stats_of<R: Files + AllocGlobal, W: Wire>(
     rt: &R,
     end: &ProxyEnd<W>,
@@ -317,7 +339,7 @@ pub fn stats_of<R: Files + AllocGlobal, W: Wire>(
     seen: &Seen,
     times: Times,
 ) -> io::Result<Vec<u8>>
-    ensures { IfOk result (λ text. TellsInJson end.now.core.value.tally text.items) }
+    ensures { IfOk result (λ text. TellsInJson end.now.core.value.tally servers.now text.items) }
 {
     json_of(rt.alloc(), &numbers_of(rt, end, servers, seen, times)?)
 }
@@ -473,7 +495,7 @@ impl Watching {
         seen: &Seen,
         lost_lines: u64,
     ) -> io::Result<Numbers>
-        ensures { IfOk result (HasTally end.now.core.value.tally) }
+        ensures { IfOk result (HasTally end.now.core.value.tally servers.now) }
     {
         let times = Times {
             uptime_ms: self.uptime(rt)?,
@@ -483,7 +505,7 @@ impl Watching {
         numbers_of(rt, end, servers, seen, times)
     }
 
-    // The text of a page, by what there is to tell: what the core counts stands at its names.
+    // The text of a page, by what there is to tell: what the core counts stands at its names, that of a server at the server's text.
     fn page<R: Files + Clock + AllocGlobal, W: Wire>(
         &self,
         rt: &R,
@@ -494,8 +516,8 @@ impl Watching {
         lost_lines: u64,
         text: &str,
     ) -> io::Result<Vec<u8>>
-        ensures metrics { page ≡ Metrics → IfOk result (λ told. TellsInPrometheus end.now.core.value.tally told.items) }
-        ensures stats { page ≡ Stats → IfOk result (λ told. TellsInJson end.now.core.value.tally told.items) }
+        ensures metrics { page ≡ Metrics → IfOk result (λ told. TellsInPrometheus end.now.core.value.tally servers.now told.items) }
+        ensures stats { page ≡ Stats → IfOk result (λ told. TellsInJson end.now.core.value.tally servers.now told.items) }
     {
         let alloc = rt.alloc();
         match page {

@@ -35,6 +35,11 @@ four_more x y z u v a b c d first second third last =
     ∙ ap (λ l. l ++ d ∷ []) (third ∙ ap (λ l. l ++ c ∷ []) (second ∙ ap (λ l. l ++ b ∷ []) first ∙ append_assoc x (a ∷ []) (b ∷ [])) ∙ append_assoc x (a ∷ b ∷ []) (c ∷ []))
     ∙ append_assoc x (a ∷ b ∷ c ∷ []) (d ∷ [])
 
+-- three more
+pub three_more : (x y z u : List Labelled) (a b c : Labelled) → y ≡ x ++ a ∷ [] → z ≡ y ++ b ∷ [] → u ≡ z ++ c ∷ [] → u ≡ x ++ a ∷ b ∷ c ∷ []
+three_more x y z u a b c first second third =
+    third ∙ ap (λ l. l ++ c ∷ []) (second ∙ ap (λ l. l ++ b ∷ []) first ∙ append_assoc x (a ∷ []) (b ∷ [])) ∙ append_assoc x (a ∷ b ∷ []) (c ∷ [])
+
 -- the numbers of a family, said otherwise
 pub told_as : (name : List ℕ) (said numbers : List Labelled) (family : Family) → said ≡ numbers → Tells name said family → Tells name numbers family
 told_as name said numbers family is tells = subst (λ n. Tells name n family) is tells

@@ -10,6 +10,7 @@ use Rattle.watch_admin.specs.declared.families.Family.{Family}
 use Rattle.watch_admin.specs.declared.numbers.ClientNumbers.{ClientNumbers}
 use Rattle.watch_admin.specs.declared.numbers.CallNumbers.{CallNumbers}
 use Rattle.watch_admin.specs.declared.numbers.CommandNumbers.{CommandNumbers}
+use Rattle.watch_admin.specs.declared.numbers.ServerNumbers.{ServerNumbers}
 
 -- the names of labels with their values, and the number that has them
 abbrev pub Labelled : Type 0
@@ -78,6 +79,31 @@ ended_counts calls = one_labelled (codes "outcome") (codes "answered") calls.ans
 abbrev pub TellsCalls : CallNumbers → List Family → Type 0
 TellsCalls calls families =
     IsAmong (Tells (codes "mcgate_calls_made_total") (([], Count calls.made) ∷ [])) families × IsAmong (Tells (codes "mcgate_calls_total") (ended_counts calls)) families
+
+-- a number of a server
+abbrev pub server_count : ServerNumbers → ℕ → Labelled
+server_count server count = one_labelled (codes "server") (string_bytes server.text) count
+
+abbrev pub made_count : ServerNumbers → Labelled
+made_count server = server_count server server.made
+
+-- a count of its calls that ended so
+abbrev pub outcome_count : ServerNumbers → List ℕ → ℕ → Labelled
+outcome_count server outcome count = ((codes "server", string_bytes server.text) ∷ (codes "outcome", outcome) ∷ [], Count count)
+
+abbrev pub outcome_counts : ServerNumbers → List Labelled
+outcome_counts server =
+    outcome_count server (codes "answered") server.answered ∷ outcome_count server (codes "failed") server.failed ∷ outcome_count server (codes "unsent") server.unsent ∷ []
+
+-- mcgate_server_calls_made_total{server} and mcgate_server_calls_total{server,outcome}: of each server how many calls were made, and how many of them were answered, and have failed after they went out, or unsent
+abbrev pub TellsServers : List ServerNumbers → List Family → Type 0
+TellsServers servers families =
+    IsAmong (Tells (codes "mcgate_server_calls_made_total") (each made_count servers)) families
+    × IsAmong (Tells (codes "mcgate_server_calls_total") (flat_map outcome_counts servers)) families
+
+-- mcgate_calls_unplaced_total: how often a call is counted at no server
+abbrev pub TellsUnplaced : CallNumbers → List Family → Type 0
+TellsUnplaced calls families = IsAmong (Tells (codes "mcgate_calls_unplaced_total") (([], Count calls.unplaced) ∷ [])) families
 
 -- some were added behind
 pub record AddsTo (old new : List Family) : Type 0 where

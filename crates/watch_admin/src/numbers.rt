@@ -2,7 +2,7 @@
 
 ghost use Rattle.std.specs.Prelude.{◌≡◌, ◌++◌, [], ◌∷◌, IfOk, OnOk, codes, string_bytes, map as each_of, flat_map};
 ghost use Rattle.watch_admin.specs.declared.families.Amount.TheVariants.{Count};
-ghost use Rattle.watch_admin.specs.Told.{label_read, sample_read, command_count, command_counts, one_labelled, came_counts, ended_counts, TellsCommands, TellsClients, TellsMessages, TellsCalls, Tells, IsAmong, AddsTo};
+ghost use Rattle.watch_admin.specs.Told.{label_read, sample_read, command_count, command_counts, one_labelled, came_counts, ended_counts, server_count, made_count, outcome_count, outcome_counts, TellsCommands, TellsClients, TellsMessages, TellsCalls, TellsServers, TellsUnplaced, Tells, IsAmong, AddsTo};
 
 use crate::families::{Amount, Family, Label, MetricKind, Sample, Samples, Spread};
 use std::alloc::{AllocError, Global};
@@ -89,6 +89,8 @@ pub struct CallNumbers {
     pub answered: u64,
     /// How many have failed, those that failed at once too.
     pub failed: u64,
+    /// How often one that was made, or answered, or has failed, is counted at no server: memory was refused for that.
+    pub unplaced: u64,
 }
 
 /// How often something was for one cause.
@@ -152,15 +154,19 @@ pub struct ServerNumbers {
     pub calls_out: u64,
     /// How often its link failed, a row for each cause.
     pub failures: Vec<CauseNumbers>,
-    /// How many calls that went out to it were answered.
+    /// How many calls of it were made.
+    pub made: u64,
+    /// How many of them were answered.
     pub answered: u64,
-    /// How many of those were answered by an error.
+    /// How many answers were errors.
     pub errors: u64,
-    /// How many have failed.
+    /// How many calls have failed that went out.
     pub failed: u64,
     /// How many have failed that never went out.
     pub unsent: u64,
-    /// How long those took altogether that were answered.
+    /// How many answers have a time.
+    pub timed: u64,
+    /// How long these took altogether.
     pub answer_micros: u64,
     /// How many of them took how long, the shortest ones first.
     pub spans: Vec<SpanNumbers>,
@@ -239,7 +245,9 @@ fn sample(alloc: Global, name: &'static str, value: &str, count: u64) -> Result<
 }
 
 // A number of a server.
-fn server_sample(alloc: Global, server: &ServerNumbers, count: u64) -> Result<Sample, AllocError> {
+fn server_sample(alloc: Global, server: &ServerNumbers, count: u64) -> Result<Sample, AllocError>
+    ensures { IfOk result (λ sample. sample_read sample ≡ server_count server.now count) }
+{
     sample(alloc, "server", server.text.as_str(), count)
 }
 
@@ -688,28 +696,45 @@ fn outcome_sample(
     server: &ServerNumbers,
     outcome: &'static str,
     count: u64,
-) -> Result<Sample, AllocError> {
+) -> Result<Sample, AllocError>
+    ensures { IfOk result (λ sample. sample_read sample ≡ outcome_count server.now outcome.now count) }
+{
     let mut ended = server_sample(alloc, server, count)?;
     ended.labels.push(label(alloc, "outcome", outcome)?)?;
     Ok(ended)
 }
 
-// How many calls of a server that went out were answered, and how many have failed, and how many have that never went out.
+// How many calls of a server were answered, and how many have failed that went out, and how many that never did.
 fn add_outcomes(
     alloc: Global,
     server: &ServerNumbers,
     samples: &mut Vec<Sample>,
-) -> Result<(), AllocError> {
+) -> Result<(), AllocError>
+    ensures { OnOk result (each_of sample_read samples.new.items ≡ each_of sample_read samples.old.items ++ outcome_counts server.now) }
+{
     samples.push(outcome_sample(alloc, server, "answered", server.answered)?)?;
     samples.push(outcome_sample(alloc, server, "failed", server.failed)?)?;
     samples.push(outcome_sample(alloc, server, "unsent", server.unsent)?)?;
     Ok(())
 }
 
-fn outcomes_of(alloc: Global, servers: &[ServerNumbers]) -> Result<Vec<Sample>, AllocError> {
+fn outcomes_of(alloc: Global, servers: &[ServerNumbers]) -> Result<Vec<Sample>, AllocError>
+    ensures { IfOk result (λ samples. each_of sample_read samples.items ≡ flat_map outcome_counts servers.now) }
+{
     let mut samples = Vec::new(alloc);
     for server in servers {
         add_outcomes(alloc, server, &mut samples)?;
+    }
+    Ok(samples)
+}
+
+// How many calls of each server were made.
+fn made_of(alloc: Global, servers: &[ServerNumbers]) -> Result<Vec<Sample>, AllocError>
+    ensures { IfOk result (λ samples. each_of sample_read samples.items ≡ each_of made_count servers.now) }
+{
+    let mut samples = Vec::new(alloc);
+    for server in servers {
+        samples.push(server_sample(alloc, server, server.made)?)?;
     }
     Ok(samples)
 }
@@ -742,7 +767,7 @@ fn add_spread(
     spread.sums.push(sum)?;
     spread
         .counts
-        .push(server_sample(alloc, server, server.answered)?)?;
+        .push(server_sample(alloc, server, server.timed)?)?;
     Ok(())
 }
 
@@ -758,13 +783,15 @@ fn spread_of(alloc: Global, servers: &[ServerNumbers]) -> Result<Spread, AllocEr
     Ok(spread)
 }
 
-// The calls of servers, and how long their answers took.
-fn add_calls(
+// How many calls of servers have ended, and how.
+#[tactic(auto, using(crate::proofs::Told::last_is_among))]
+fn add_server_outcomes(
     alloc: Global,
     servers: &[ServerNumbers],
     families: &mut Vec<Family>,
 ) -> Result<(), AllocError>
-    ensures { OnOk result (AddsTo families.old.items families.new.items) }
+    ensures adds { OnOk result (AddsTo families.old.items families.new.items) }
+    ensures told { OnOk result (IsAmong (Tells (codes "mcgate_server_calls_total") (flat_map outcome_counts servers.now)) families.new.items) }
 {
     families.push(each(
         "mcgate_server_calls_total",
@@ -772,6 +799,67 @@ fn add_calls(
         "Calls of the server that have ended, by what became of them; those unsent have failed and never went out.",
         outcomes_of(alloc, servers)?,
     ))?;
+    Ok(())
+}
+
+// How many were made.
+#[tactic(auto, using(crate::proofs::Told::last_is_among))]
+fn add_made_of_servers(
+    alloc: Global,
+    servers: &[ServerNumbers],
+    families: &mut Vec<Family>,
+) -> Result<(), AllocError>
+    ensures adds { OnOk result (AddsTo families.old.items families.new.items) }
+    ensures told { OnOk result (IsAmong (Tells (codes "mcgate_server_calls_made_total") (each_of made_count servers.now)) families.new.items) }
+{
+    families.push(each(
+        "mcgate_server_calls_made_total",
+        MetricKind::Counter,
+        "Calls of the server that commands have made.",
+        made_of(alloc, servers)?,
+    ))?;
+    Ok(())
+}
+
+// How often a call is counted at none of them.
+#[tactic(auto, using(crate::proofs::Told::last_is_among))]
+fn add_unplaced(calls: &CallNumbers, families: &mut Vec<Family>) -> Result<(), AllocError>
+    ensures adds { OnOk result (AddsTo families.old.items families.new.items) }
+    ensures told { OnOk result (IsAmong (Tells (codes "mcgate_calls_unplaced_total") (([], Count calls.now.unplaced) ∷ [])) families.new.items) }
+{
+    families.push(counter(
+        "mcgate_calls_unplaced_total",
+        "How often a call that was made, or answered, or has failed, is counted at no server, as memory was refused for that.",
+        calls.unplaced,
+    ))?;
+    Ok(())
+}
+
+// How many calls of servers were made, and what has become of them.
+#[tactic(auto, using(crate::proofs::Told::more_then, crate::proofs::Told::stays_among))]
+fn add_calls_of_servers(
+    alloc: Global,
+    servers: &[ServerNumbers],
+    calls: &CallNumbers,
+    families: &mut Vec<Family>,
+) -> Result<(), AllocError>
+    ensures adds { OnOk result (AddsTo families.old.items families.new.items) }
+    ensures told { OnOk result (TellsServers servers.now families.new.items) }
+    ensures unplaced { OnOk result (TellsUnplaced calls.now families.new.items) }
+{
+    add_made_of_servers(alloc, servers, families)?;
+    add_server_outcomes(alloc, servers, families)?;
+    add_unplaced(calls, families)
+}
+
+// Their answers: errors, and how long they took.
+fn add_answers(
+    alloc: Global,
+    servers: &[ServerNumbers],
+    families: &mut Vec<Family>,
+) -> Result<(), AllocError>
+    ensures { OnOk result (AddsTo families.old.items families.new.items) }
+{
     families.push(each(
         "mcgate_server_error_answers_total",
         MetricKind::Counter,
@@ -885,6 +973,7 @@ fn add_links(
     Ok(())
 }
 
+// The states of servers, their connections, and their limits.
 #[tactic(auto, using(crate::proofs::Told::more_then))]
 fn add_servers(
     alloc: Global,
@@ -895,11 +984,10 @@ fn add_servers(
 {
     add_states(alloc, servers, families)?;
     add_links(alloc, servers, families)?;
-    add_limits(alloc, servers, families)?;
-    add_calls(alloc, servers, families)
+    add_limits(alloc, servers, families)
 }
 
-// What is told of servers, and how often all this was asked.
+// Their answers, and how often all this was asked.
 #[tactic(auto, using(crate::proofs::Told::one_more, crate::proofs::Told::more_then))]
 fn add_rest(
     alloc: Global,
@@ -909,7 +997,7 @@ fn add_rest(
 ) -> Result<(), AllocError>
     ensures { OnOk result (AddsTo families.old.items families.new.items) }
 {
-    add_servers(alloc, servers, families)?;
+    add_answers(alloc, servers, families)?;
     families.push(counter(
         "mcgate_scrapes_total",
         "Requests for these numbers that were answered before.",
@@ -920,14 +1008,17 @@ fn add_rest(
 
 /// The families of these numbers. One of them, `mcgate_client_connections_total`, has just how many clients were accepted and refused; one,
 /// `mcgate_bad_messages_total`, how many of their messages were refused; one, `mcgate_commands_total`, of each operation how many commands ended with each
-/// kind of reply; and `mcgate_calls_made_total` and `mcgate_calls_total` have how many calls were made, and how many of them were answered and have
-/// failed. Of the numbers of other families no clause tells. The only error is that memory was refused.
+/// kind of reply; `mcgate_calls_made_total` and `mcgate_calls_total` have how many calls were made, and how many of them were answered and have
+/// failed; and `mcgate_server_calls_made_total` and `mcgate_server_calls_total` the same of each server, where those unsent stand apart;
+/// `mcgate_calls_unplaced_total` how often a call is counted at no server. Of the numbers of other families no clause tells. The only error is that memory was refused.
 #[tactic(auto, using(crate::proofs::Told::more_then, crate::proofs::Told::stays_among))]
 pub fn families_of(alloc: Global, numbers: &Numbers) -> Result<Vec<Family>, AllocError>
     ensures clients { IfOk result (λ families. TellsClients numbers.now.clients families.items) }
     ensures messages { IfOk result (λ families. TellsMessages numbers.now.clients families.items) }
     ensures commands { IfOk result (λ families. TellsCommands numbers.now.commands.items families.items) }
     ensures calls { IfOk result (λ families. TellsCalls numbers.now.calls families.items) }
+    ensures servers { IfOk result (λ families. TellsServers numbers.now.servers.items families.items) }
+    ensures unplaced { IfOk result (λ families. TellsUnplaced numbers.now.calls families.items) }
 {
     let mut families = Vec::new(alloc);
     add_process(alloc, &numbers.process, &mut families)?;
@@ -940,6 +1031,8 @@ pub fn families_of(alloc: Global, numbers: &Numbers) -> Result<Vec<Family>, Allo
     add_command_times(alloc, &numbers.command_times, &mut families)?;
     add_all_calls(alloc, &numbers.calls, &mut families)?;
     let servers = numbers.servers.as_slice();
+    add_servers(alloc, servers, &mut families)?;
+    add_calls_of_servers(alloc, servers, &numbers.calls, &mut families)?;
     add_rest(alloc, servers, numbers.scrapes, &mut families)?;
     Ok(families)
 }
@@ -959,13 +1052,15 @@ fn refusal_samples(
 }
 
 /// The families of these numbers, and one for whoever takes texts too: the line of the last text that was refused, with its time. The counts of clients,
-/// of refused messages, of commands and of calls stand at their names, as [`families_of`] says. The only error is that memory was refused.
+/// of refused messages, of commands and of calls, also of each server, stand at their names, as [`families_of`] says. The only error is that memory was refused.
 #[tactic(auto, using(crate::proofs::Told::one_more, crate::proofs::Told::stays_among))]
 pub fn families_with_lines(alloc: Global, numbers: &Numbers) -> Result<Vec<Family>, AllocError>
     ensures clients { IfOk result (λ families. TellsClients numbers.now.clients families.items) }
     ensures messages { IfOk result (λ families. TellsMessages numbers.now.clients families.items) }
     ensures commands { IfOk result (λ families. TellsCommands numbers.now.commands.items families.items) }
     ensures calls { IfOk result (λ families. TellsCalls numbers.now.calls families.items) }
+    ensures servers { IfOk result (λ families. TellsServers numbers.now.servers.items families.items) }
+    ensures unplaced { IfOk result (λ families. TellsUnplaced numbers.now.calls families.items) }
 {
     let mut families = families_of(alloc, numbers)?;
     families.push(each(

@@ -114,11 +114,17 @@ mcgate_server_fail_limit{server="\"a\\:1?"} 21
 # HELP mcgate_server_retry_seconds For how long they do, before one call tries it.
 # TYPE mcgate_server_retry_seconds gauge
 mcgate_server_retry_seconds{server="\"a\\:1?"} 0.022
+# HELP mcgate_server_calls_made_total Calls of the server that commands have made.
+# TYPE mcgate_server_calls_made_total counter
+mcgate_server_calls_made_total{server="\"a\\:1?"} 66
 # HELP mcgate_server_calls_total Calls of the server that have ended, by what became of them; those unsent have failed and never went out.
 # TYPE mcgate_server_calls_total counter
 mcgate_server_calls_total{server="\"a\\:1?",outcome="answered"} 18
 mcgate_server_calls_total{server="\"a\\:1?",outcome="failed"} 19
 mcgate_server_calls_total{server="\"a\\:1?",outcome="unsent"} 29
+# HELP mcgate_calls_unplaced_total How often a call that was made, or answered, or has failed, is counted at no server, as memory was refused for that.
+# TYPE mcgate_calls_unplaced_total counter
+mcgate_calls_unplaced_total 67
 # HELP mcgate_server_error_answers_total Answers of the server that were errors: ERROR, CLIENT_ERROR or SERVER_ERROR.
 # TYPE mcgate_server_error_answers_total counter
 mcgate_server_error_answers_total{server="\"a\\:1?"} 31
@@ -165,7 +171,9 @@ fn stats() -> &'static str {
 "mcgate_server_connect_limit_seconds":[{"server":"\"a\\:1?","value":60.020}],
 "mcgate_server_fail_limit":[{"server":"\"a\\:1?","value":21}],
 "mcgate_server_retry_seconds":[{"server":"\"a\\:1?","value":0.022}],
+"mcgate_server_calls_made_total":[{"server":"\"a\\:1?","value":66}],
 "mcgate_server_calls_total":[{"server":"\"a\\:1?","outcome":"answered","value":18},{"server":"\"a\\:1?","outcome":"failed","value":19},{"server":"\"a\\:1?","outcome":"unsent","value":29}],
+"mcgate_calls_unplaced_total":67,
 "mcgate_server_error_answers_total":[{"server":"\"a\\:1?","value":31}],
 "mcgate_server_call_seconds":{"le":[{"server":"\"a\\:1?","le":"0.0001","value":10},{"server":"\"a\\:1?","le":"+Inf","value":18}],"sum":[{"server":"\"a\\:1?","value":3.004050}],"n":[{"server":"\"a\\:1?","value":18}]},
 "mcgate_scrapes_total":17,
@@ -244,10 +252,12 @@ fn servers(alloc: Global) -> Result<Vec<ServerNumbers>, AllocError> {
         connections: 14,
         calls_out: 15,
         failures,
+        made: 66,
         answered: 18,
         errors: 31,
         failed: 19,
         unsent: 29,
+        timed: 18,
         answer_micros: 3_004_050,
         spans: spans(alloc)?,
     })?;
@@ -288,6 +298,7 @@ fn numbers(alloc: Global) -> Result<Numbers, AllocError> {
             made: 24,
             answered: 25,
             failed: 26,
+            unplaced: 67,
         },
         servers: servers(alloc)?,
         scrapes: 17,

@@ -14,3 +14,11 @@ pub returns-clause-calls : goal.returns-clause-calls
 returns-clause-calls c =
     let adds = one_more _ _ _ c.in_ok-push.ensures.items in
     (stays_among _ _ _ c.in_ok-families.ensures.calls.0 adds, stays_among _ _ _ c.in_ok-families.ensures.calls.1 adds)
+
+pub returns-clause-servers : goal.returns-clause-servers
+returns-clause-servers c =
+    let adds = one_more _ _ _ c.in_ok-push.ensures.items in
+    (stays_among _ _ _ c.in_ok-families.ensures.servers.0 adds, stays_among _ _ _ c.in_ok-families.ensures.servers.1 adds)
+
+pub returns-clause-unplaced : goal.returns-clause-unplaced
+returns-clause-unplaced c = stays_among _ _ _ c.in_ok-families.ensures.unplaced (one_more _ _ _ c.in_ok-push.ensures.items)
