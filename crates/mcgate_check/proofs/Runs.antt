@@ -1,6 +1,6 @@
 -- The gap that a tree is refused for is real, and what is found for it is as it is to be.
 use Rattle.std.proofs.Common.{List, All, Option, Some, None, Result, Ok, Err, IfSome, inl, inr, refl, sym, ap, subst, map}
-use Rattle.std.specs.Prelude.{IfOk, IfNone}
+use Rattle.std.specs.Prelude.{IfOk}
 use Rattle.route_tree.specs.Route.{Route}
 use Rattle.route_json.specs.Configuration.{Configuration}
 use Rattle.gate_check.specs.declared.gap.Gap.{Gap}
@@ -9,7 +9,7 @@ use Rattle.gate_check.specs.declared.gap.Reason.TheVariants as reasons
 use Rattle.gate_check.specs.Gate.{IsJudged}
 use Rattle.script_events.specs.declared.script.Script.{Script}
 use Rattle.script_events.specs.Scripted.{Scripted, scripted_of}
-use Rattle.mcgate_check.specs.Refusals.{IsRefusalRun, IsRealGap, MayLack}
+use Rattle.mcgate_check.specs.Refusals.{IsLeakAnswer, IsRefusalRun, IsRealGap}
 use Rattle.script_events.specs.LineLaws.{HaveLines, HaveWidths, AreReadBack}
 use Rattle.script_events.proofs.LinesReadBack.{scripts_are_read_back}
 use Rattle.script_events.proofs.Widths.{IsWide, have_widths}
@@ -30,14 +30,14 @@ real_gap tree gap judged =
       gap_at = first.first.gap;
     }
 
-found_for : (config : Configuration) (gap : Gap) (found : Option Script) → IsRealGap config.tree gap → IfSome found (λ script. IsRefusalRun config gap (map scripted_of script.events.items)) → IfNone found (IsRealGap config.tree gap → MayLack config.tree gap) → IsFoundFor config (reasons.Uncovered gap) found
-found_for config gap None real some none = none real
-found_for config gap (Some script) real some none = some
+found_for : (config : Configuration) (gap : Gap) (found : Option Script) → IsRealGap config.tree gap → IsLeakAnswer config gap found → IsFoundFor config (reasons.Uncovered gap) found
+found_for config gap None real none = none real
+found_for config gap (Some script) real run = run
 
 -- what was found for the gap is the script that shows it
-pub found_shows : {E : Type 0} (config : Configuration) (gap : Gap) (result : Result (Option Script) E) → IsJudged config.tree (reasons.Uncovered gap) → IfOk result (λ found. IfSome found (λ script. IsRefusalRun config gap (map scripted_of script.events.items))) → IfOk result (λ found. IfNone found (IsRealGap config.tree gap → MayLack config.tree gap)) → IfOk result (IsFoundFor config (reasons.Uncovered gap))
-found_shows config gap (Ok found) judged some none = found_for config gap found (real_gap config.tree gap judged) some none
-found_shows config gap (Err error) judged some none = tt
+pub found_shows : {E : Type 0} (config : Configuration) (gap : Gap) (result : Result (Option Script) E) → IsJudged config.tree (reasons.Uncovered gap) → IfOk result (IsLeakAnswer config gap) → IfOk result (IsFoundFor config (reasons.Uncovered gap))
+found_shows config gap (Ok found) judged answer = found_for config gap found (real_gap config.tree gap judged) answer
+found_shows config gap (Err error) judged answer = tt
 
 -- a refusal run whose numbers and bytes have their widths is read back
 run_is_read : (config : Configuration) (gap : Gap) (events : List Scripted) → IsRefusalRun config gap events → HaveWidths events → AreReadBack events

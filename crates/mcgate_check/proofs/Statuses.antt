@@ -2,8 +2,10 @@
 use Rattle.std.proofs.Common.{◌≡◌, ℕ, ◌≤◌, List, [], ◌∷◌, Option, Some, arith, inl, inr, sym, subst}
 use Rattle.route_json.specs.Configuration.{Configuration}
 use Rattle.route_tree.specs.Route.{Route}
+use Rattle.gate_check.specs.declared.places.table.PlaceTable.{PlaceTable}
 use Rattle.gate_check.specs.Gate.{IsCertified}
 use Rattle.gate_check.specs.Sound.{IsLast}
+use Rattle.gate_check.specs.Tables.{IsTable}
 use Rattle.mcgate_check.specs.Checking.{StopsUnwritten, fault_answer}
 use Rattle.mcgate_check.specs.Reporting.{Checks, ReportsConfig}
 use Rattle.mcgate_check.specs.declared.reporting.Form.{Form}
@@ -28,7 +30,13 @@ same : (a b : Configuration) → Some a ≡ Some b → a ≡ b
 same a b e = cc
 
 -- of a configuration that is in use alone
-pub certified_in_use : (configs : List Configuration) (config used : Configuration) (tree : Route) → configs ≡ config ∷ [] → IsLast configs used → tree ≡ used.tree → IsCertified config.tree → IsCertified tree
-certified_in_use configs config used tree one last is certified =
+in_use : (P : Route → Type 0) (configs : List Configuration) (config used : Configuration) (tree : Route) → configs ≡ config ∷ [] → IsLast configs used → tree ≡ used.tree → P config.tree → P tree
+in_use P configs config used tree one last is holds =
     let alone = subst (λ (l : List Configuration). IsLast l used) one last in
-    subst IsCertified (sym is) (subst (λ (c : Configuration). IsCertified c.tree) (same config used alone) certified)
+    subst P (sym is) (subst (λ (c : Configuration). P c.tree) (same config used alone) holds)
+
+pub certified_in_use : (configs : List Configuration) (config used : Configuration) (tree : Route) → configs ≡ config ∷ [] → IsLast configs used → tree ≡ used.tree → IsCertified config.tree → IsCertified tree
+certified_in_use configs config used tree one last is certified = in_use IsCertified configs config used tree one last is certified
+
+pub table_in_use : (table : PlaceTable) (configs : List Configuration) (config used : Configuration) (tree : Route) → configs ≡ config ∷ [] → IsLast configs used → tree ≡ used.tree → IsTable (config.tree ∷ []) table → IsTable (tree ∷ []) table
+table_in_use table configs config used tree one last is t = in_use (λ r. IsTable (r ∷ []) table) configs config used tree one last is t

@@ -9,9 +9,9 @@ ghost use Rattle.mcgate_check.specs.Checking.{StopsUnwritten};
 use crate::checking::{print_fault, print_refused};
 use crate::status::{DONE, RunFault, answer_of};
 use gate_certificate::certificate_text;
-use gate_check::judge;
 use gate_check::places::proposing::propose_by;
 use gate_check::places::{Certificate, PlaceTable, places};
+use gate_check::{judge_by, untabled};
 use route_json::{Config, read_config};
 use route_tree::Tree;
 use std::alloc::{AllocError, Global};
@@ -27,37 +27,52 @@ fn certificate_by(alloc: Global, tree: &Tree, table: &PlaceTable) -> Result<Cert
     propose_by(alloc, tree, table)
 }
 
-// A certificate that is valid for a tree that has one.
-fn certificate_of(alloc: Global, tree: &Tree) -> Result<Certificate, AllocError>
-    requires { IsCertified tree.now }
-    ensures { IfOk result (HasCertificate tree.now) }
-{
-    match places(alloc, tree) {
-        Ok(table) => certificate_by(alloc, tree, &table),
-        Err(_) => Err(AllocError),
-    }
-}
-
-// Writes a certificate of the tree, and ends the line.
-fn print_certificate<W: Write>(alloc: Global, tree: &Tree, out: &mut W) -> Result<u8, RunFault>
-    requires { IsCertified tree.now }
+// Writes a certificate of the tree, whose table this is, and ends the line.
+fn print_certificate<W: Write>(
+    alloc: Global,
+    tree: &Tree,
+    table: &PlaceTable,
+    out: &mut W,
+) -> Result<u8, RunFault>
+    requires certified { IsCertified tree.now }
+    requires table { IsTable (tree.now ∷ []) table.now }
     ensures ok { IfOk result (λ status. (status ≡ 0) × WritesCertificate tree.now (W.contents out.old) (W.contents out.new)) }
     ensures err { IfErr result (StopsUnwritten (W.contents out.old) (W.contents out.new)) }
 {
-    let certificate = certificate_of(alloc, tree)?;
+    let certificate = certificate_by(alloc, tree, table)?;
     let text = certificate_text(alloc, &certificate)?;
     writeln!(out, "{text}")?;
     Ok(DONE)
 }
 
-// The same of a configuration, or writes why it is refused.
+// The same of a configuration by the table of its tree's places, or writes why it is refused.
+fn certify_by<W: Write>(
+    alloc: Global,
+    config: Config,
+    table: &PlaceTable,
+    out: &mut W,
+) -> Result<u8, RunFault>
+    requires { IsTable (config.tree ∷ []) table.now }
+    ensures ok { IfOk result (CertifiesConfig config (W.contents out.old) (W.contents out.new)) }
+    ensures err { IfErr result (StopsUnwritten (W.contents out.old) (W.contents out.new)) }
+{
+    match judge_by(alloc, config, table) {
+        Ok(accepted) => print_certificate(alloc, accepted.config().tree(), table, out),
+        Err(refused) => print_refused(&refused.config, &refused.reason, out),
+    }
+}
+
+// The same of a configuration. The table of its tree's places is made once, for the judgement and the certificate.
 fn certify_config<W: Write>(alloc: Global, config: Config, out: &mut W) -> Result<u8, RunFault>
     ensures ok { IfOk result (CertifiesConfig config (W.contents out.old) (W.contents out.new)) }
     ensures err { IfErr result (StopsUnwritten (W.contents out.old) (W.contents out.new)) }
 {
-    match judge(alloc, config) {
-        Ok(accepted) => print_certificate(alloc, accepted.config().tree(), out),
-        Err(refused) => print_refused(&refused.config, &refused.reason, out),
+    match places(alloc, config.tree()) {
+        Ok(table) => certify_by(alloc, config, &table, out),
+        Err(fault) => {
+            let reason = untabled(config.tree(), fault);
+            print_refused(&config, &reason, out)
+        }
     }
 }
 

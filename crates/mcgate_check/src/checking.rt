@@ -1,21 +1,22 @@
 //! What is printed of a configuration that is accepted or refused, and of a text that is none.
 
-ghost use Rattle.std.specs.Prelude.{◌≡◌, ◌≤◌, IfOk, IfErr, IfSome, OnOk, All};
+ghost use Rattle.std.specs.Prelude.{[], ◌∷◌, ◌≡◌, ◌≤◌, IfOk, IfErr, IfSome, OnOk, All};
 ghost use Rattle.std.specs.Io.KnownBytes.{Appends};
 ghost use Rattle.serde_json.specs.Read.{read};
 ghost use Rattle.route_json.specs.Configs.{read_or};
 ghost use Rattle.route_json.specs.Fault.{Fails, fault_of};
 ghost use Rattle.gate_check.specs.Gate.{IsCertified, IsJudged};
+ghost use Rattle.gate_check.specs.Tables.{IsTable};
 ghost use Rattle.script_events.specs.Scripted.{scripted_of};
 ghost use Rattle.script_events.specs.LineLaws.{HasWidths};
 ghost use Rattle.mcgate_check.specs.Verdict.{judged_line};
 ghost use Rattle.mcgate_check.specs.Checking.{ChecksRefused, ChecksFound, ReasonHasLine, PrintsAccepted, PrintsRefused, IsFoundFor, PrintsFault, StopsUnwritten, TreeHasPlaces, run_lines};
 
-use crate::leaks::refusal_run;
+use crate::leaks::run::run_with;
 use crate::status::{BAD_INPUT, DONE, REFUSED, RunFault};
 use crate::verdict::{write_accepted, write_refusal};
 use gate_check::Reason;
-use gate_check::places::places;
+use gate_check::places::{PlaceTable, places};
 use route_json::{Config, ConfigFault};
 use route_tree::Tree;
 use script_events::Script;
@@ -25,15 +26,28 @@ use std::alloc::{AllocError, Global};
 use std::io;
 use std::io::Write;
 
-// How many places an accepted tree has.
-fn place_count(alloc: Global, tree: &Tree) -> Result<u32, AllocError>
-    requires { IsCertified tree.now }
-    ensures { IfOk result (TreeHasPlaces tree.now) }
+// How many places the tree has, by its table.
+fn place_count(tree: &Tree, table: &PlaceTable) -> u32
+    requires { IsTable (tree.now ∷ []) table.now }
+    ensures { TreeHasPlaces tree.now result }
 {
-    match places(alloc, tree) {
-        Ok(table) => Ok(table.rows()),
-        Err(_) => Err(AllocError),
-    }
+    let _tree = tree;
+    table.rows()
+}
+
+/// Writes that a tree is accepted, whose table this is, with the number of its places.
+pub(crate) fn print_accepted_by<W: Write>(
+    tree: &Tree,
+    table: &PlaceTable,
+    out: &mut W,
+) -> Result<u8, RunFault>
+    requires certified { IsCertified tree.now }
+    requires table { IsTable (tree.now ∷ []) table.now }
+    ensures ok { IfOk result (λ status. (status ≡ 0) × PrintsAccepted tree.now (W.contents out.old) (W.contents out.new)) }
+    ensures err { IfErr result (StopsUnwritten (W.contents out.old) (W.contents out.new)) }
+{
+    write_accepted(place_count(tree, table), out)?;
+    Ok(DONE)
 }
 
 /// Writes that a tree is accepted, with the number of its places.
@@ -42,9 +56,10 @@ pub fn print_accepted<W: Write>(alloc: Global, tree: &Tree, out: &mut W) -> Resu
     ensures ok { IfOk result (λ status. (status ≡ 0) × PrintsAccepted tree.now (W.contents out.old) (W.contents out.new)) }
     ensures err { IfErr result (StopsUnwritten (W.contents out.old) (W.contents out.new)) }
 {
-    let count = place_count(alloc, tree)?;
-    write_accepted(count, out)?;
-    Ok(DONE)
+    match places(alloc, tree) {
+        Ok(table) => print_accepted_by(tree, &table, out),
+        Err(_) => Err(RunFault::NoMemory),
+    }
 }
 
 /// Writes the line of a reason; where that is running out of memory, it is the error, and nothing was written.
@@ -78,17 +93,20 @@ pub fn print_refused<W: Write>(
     print_reason(config, reason, out)
 }
 
-/// The script that shows why a configuration is refused, if that is a gap that has one.
+/// The script that shows why a configuration is refused, if that is a gap that has one, by the table of its tree's places, if that was
+/// made.
 pub(crate) fn run_of(
     alloc: Global,
     config: &Config,
+    table: Option<&PlaceTable>,
     reason: &Reason,
 ) -> Result<Option<Script>, AllocError>
-    requires { IsJudged config.now.tree reason.now }
+    requires judged { IsJudged config.now.tree reason.now }
+    requires table { IfSome table (λ table. IsTable (config.now.tree ∷ []) table.now) }
     ensures { IfOk result (IsFoundFor config.now reason.now) }
 {
     match reason {
-        Reason::Uncovered(gap) => refusal_run(alloc, config, gap),
+        Reason::Uncovered(gap) => run_with(alloc, config, table, gap),
         _ => Ok(None),
     }
 }
@@ -121,6 +139,23 @@ pub(crate) fn print_found<W: Write>(
     Ok(status)
 }
 
+/// Writes why a configuration is refused, and the script that shows it, by the table of its tree's places, if that was made.
+pub(crate) fn check_refused_by<W: Write>(
+    alloc: Global,
+    config: &Config,
+    table: Option<&PlaceTable>,
+    reason: &Reason,
+    out: &mut W,
+) -> Result<u8, RunFault>
+    requires judged { IsJudged config.now.tree reason.now }
+    requires table { IfSome table (λ table. IsTable (config.now.tree ∷ []) table.now) }
+    ensures ok { IfOk result (λ status. (status ≡ 1) × ChecksRefused config.now reason.now (W.contents out.old) (W.contents out.new)) }
+    ensures err { IfErr result (StopsUnwritten (W.contents out.old) (W.contents out.new)) }
+{
+    let run = run_of(alloc, config, table, reason)?;
+    print_found(config, reason, &run, out)
+}
+
 /// Writes why a configuration is refused, and the script that shows it. The script is looked for before that, so that nothing was
 /// written where memory for it was refused.
 pub fn check_refused<W: Write>(
@@ -133,8 +168,7 @@ pub fn check_refused<W: Write>(
     ensures ok { IfOk result (λ status. (status ≡ 1) × ChecksRefused config.now reason.now (W.contents out.old) (W.contents out.new)) }
     ensures err { IfErr result (StopsUnwritten (W.contents out.old) (W.contents out.new)) }
 {
-    let run = run_of(alloc, config, reason)?;
-    print_found(config, reason, &run, out)
+    check_refused_by(alloc, config, None, reason, out)
 }
 
 /// Writes the fault of a text that is no configuration, unless that is running out of memory.

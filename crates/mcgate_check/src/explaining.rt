@@ -1,8 +1,9 @@
 //! What is printed of a configuration, and then in words why it is refused.
 
-ghost use Rattle.std.specs.Prelude.{◌≡◌, IfOk, IfErr, OnOk};
+ghost use Rattle.std.specs.Prelude.{[], ◌∷◌, ◌≡◌, IfOk, IfErr, IfSome, OnOk};
 ghost use Rattle.std.specs.Io.KnownBytes.{Appends};
 ghost use Rattle.gate_check.specs.Gate.{IsCertified, IsJudged};
+ghost use Rattle.gate_check.specs.Tables.{IsTable};
 ghost use Rattle.gate_check.specs.declared.gap.Reason.TheVariants as reasons;
 ghost use Rattle.mcgate_check.specs.Checking.{StopsUnwritten};
 ghost use Rattle.mcgate_check.specs.Explaining as told;
@@ -10,8 +11,9 @@ ghost use Rattle.mcgate_check.specs.Explaining.{ExplainsAccepted, ExplainsRefuse
 ghost use Rattle.gate_gaps.specs.Explanations as gaps;
 ghost use Rattle.route_tree.specs.Place.{tree_at_place};
 
-use crate::checking::{print_accepted, print_found, run_of};
+use crate::checking::{print_accepted_by, print_found, run_of};
 use crate::status::RunFault;
+use gate_check::places::PlaceTable;
 use gate_check::{Gap, Reason};
 use gate_coverage::prefixes::prefix_text;
 use gate_gaps::pool_words::write_server;
@@ -173,12 +175,19 @@ fn write_words<W: Write>(
 }
 
 // What is told of a configuration that this text means.
-fn told_of(alloc: Global, text: &str, config: &Config, reason: &Reason) -> Result<Told, AllocError>
-    requires { IsJudged config.now.tree reason.now }
+fn told_of(
+    alloc: Global,
+    text: &str,
+    config: &Config,
+    table: Option<&PlaceTable>,
+    reason: &Reason,
+) -> Result<Told, AllocError>
+    requires judged { IsJudged config.now.tree reason.now }
+    requires table { IfSome table (λ table. IsTable (config.now.tree ∷ []) table.now) }
     ensures { IfOk result (ExplainsFault text.now config.now reason.now) }
 {
     let words = words_of(alloc, config, reason)?;
-    let run = run_of(alloc, config, reason)?;
+    let run = run_of(alloc, config, table, reason)?;
     let pools = read_pools(alloc, text, config.servers())?;
     Ok(Told { pools, run, words })
 }
@@ -209,20 +218,22 @@ fn print_told<W: Write>(
     Ok(status)
 }
 
-/// Writes why a configuration, which this text means, is refused, the script that shows it, and the words. All that needs memory is
-/// done before anything is written.
+/// Writes why a configuration, which this text means, is refused, the script that shows it, and the words. The table of its tree's
+/// places is used if it was made. All that needs memory is done before anything is written.
 pub(crate) fn explain_refused<W: Write>(
     alloc: Global,
     text: &str,
     config: &Config,
+    table: Option<&PlaceTable>,
     reason: &Reason,
     out: &mut W,
 ) -> Result<u8, RunFault>
-    requires { IsJudged config.now.tree reason.now }
+    requires judged { IsJudged config.now.tree reason.now }
+    requires table { IfSome table (λ table. IsTable (config.now.tree ∷ []) table.now) }
     ensures ok { IfOk result (λ status. (status ≡ 1) × ExplainsRefused text.now config.now reason.now (W.contents out.old) (W.contents out.new)) }
     ensures err { IfErr result (StopsUnwritten (W.contents out.old) (W.contents out.new)) }
 {
-    let told = told_of(alloc, text, config, reason)?;
+    let told = told_of(alloc, text, config, table, reason)?;
     print_told(text, config, reason, &told, out)
 }
 
@@ -233,17 +244,18 @@ fn write_fresh<W: Write>(out: &mut W) -> io::Result<()>
     writeln!(out, "{text}")
 }
 
-/// Writes that a tree is accepted, and what that is.
+/// Writes that a tree is accepted, whose table of places this is, and what that is.
 pub(crate) fn explain_accepted<W: Write>(
-    alloc: Global,
     tree: &Tree,
+    table: &PlaceTable,
     out: &mut W,
 ) -> Result<u8, RunFault>
-    requires { IsCertified tree.now }
+    requires certified { IsCertified tree.now }
+    requires table { IsTable (tree.now ∷ []) table.now }
     ensures ok { IfOk result (λ status. (status ≡ 0) × ExplainsAccepted tree.now (W.contents out.old) (W.contents out.new)) }
     ensures err { IfErr result (StopsUnwritten (W.contents out.old) (W.contents out.new)) }
 {
-    let status = print_accepted(alloc, tree, out)?;
+    let status = print_accepted_by(tree, table, out)?;
     write_fresh(out)?;
     Ok(status)
 }

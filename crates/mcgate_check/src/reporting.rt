@@ -1,15 +1,17 @@
 //! A configuration's text, judged, and the verdict printed in a form.
 
-ghost use Rattle.std.specs.Prelude.{◌≡◌, ◌≤◌, IfOk, IfErr};
+ghost use Rattle.std.specs.Prelude.{[], ◌∷◌, ◌≡◌, ◌≤◌, IfOk, IfErr, IfSome};
 ghost use Rattle.gate_check.specs.Gate.{IsCertified, IsJudged};
+ghost use Rattle.gate_check.specs.Tables.{IsTable};
 ghost use Rattle.mcgate_check.specs.Checking.{StopsUnwritten};
 ghost use Rattle.mcgate_check.specs.Reporting.{AcceptedIn, Checks, RefusedIn, ReportsConfig};
 
-use crate::checking::{check_refused, print_accepted, print_fault};
+use crate::checking::{check_refused_by, print_accepted_by, print_fault};
 use crate::drawing::{draw_accepted, draw_refused};
 use crate::explaining::{explain_accepted, explain_refused};
 use crate::status::{RunFault, answer_of};
-use gate_check::{Reason, judge};
+use gate_check::places::{PlaceTable, places};
+use gate_check::{Reason, judge_by, untabled};
 use route_json::{Config, read_config};
 use std::alloc::Global;
 use std::io::Write;
@@ -25,46 +27,77 @@ pub enum Form {
     Picture,
 }
 
-// Prints an accepted configuration.
+// Prints an accepted configuration, whose tree has this table of places.
 fn accept<W: Write>(
     alloc: Global,
     form: Form,
     text: &str,
     config: &Config,
+    table: &PlaceTable,
     out: &mut W,
 ) -> Result<u8, RunFault>
-    requires { IsCertified config.now.tree }
+    requires certified { IsCertified config.now.tree }
+    requires table { IsTable (config.now.tree ∷ []) table.now }
     ensures ok { IfOk result (λ status. (status ≡ 0) × AcceptedIn form text.now config.now (W.contents out.old) (W.contents out.new)) }
     ensures err { IfErr result (StopsUnwritten (W.contents out.old) (W.contents out.new)) }
 {
     match form {
-        Form::Lines => print_accepted(alloc, config.tree(), out),
-        Form::Explained => explain_accepted(alloc, config.tree(), out),
+        Form::Lines => print_accepted_by(config.tree(), table, out),
+        Form::Explained => explain_accepted(config.tree(), table, out),
         Form::Picture => draw_accepted(alloc, text, config, out),
     }
 }
 
-// Prints one that is refused.
+// Prints one that is refused. Its tree has this table of places, if it has one.
 fn refuse<W: Write>(
     alloc: Global,
     form: Form,
     text: &str,
     config: &Config,
+    table: Option<&PlaceTable>,
     reason: &Reason,
     out: &mut W,
 ) -> Result<u8, RunFault>
-    requires { IsJudged config.now.tree reason.now }
+    requires judged { IsJudged config.now.tree reason.now }
+    requires table { IfSome table (λ table. IsTable (config.now.tree ∷ []) table.now) }
     ensures ok { IfOk result (λ status. (status ≡ 1) × RefusedIn form text.now config.now reason.now (W.contents out.old) (W.contents out.new)) }
     ensures err { IfErr result (StopsUnwritten (W.contents out.old) (W.contents out.new)) }
 {
     match form {
-        Form::Lines => check_refused(alloc, config, reason, out),
-        Form::Explained => explain_refused(alloc, text, config, reason, out),
+        Form::Lines => check_refused_by(alloc, config, table, reason, out),
+        Form::Explained => explain_refused(alloc, text, config, table, reason, out),
         Form::Picture => draw_refused(alloc, text, config, reason, out),
     }
 }
 
-// Judges a configuration, which this text means, and prints the verdict.
+// Judges a configuration by the table of its tree's places, and prints the verdict.
+fn report_by<W: Write>(
+    alloc: Global,
+    form: Form,
+    text: &str,
+    config: Config,
+    table: &PlaceTable,
+    out: &mut W,
+) -> Result<u8, RunFault>
+    requires { IsTable (config.tree ∷ []) table.now }
+    ensures ok { IfOk result (ReportsConfig form text.now config (W.contents out.old) (W.contents out.new)) }
+    ensures err { IfErr result (StopsUnwritten (W.contents out.old) (W.contents out.new)) }
+{
+    match judge_by(alloc, config, table) {
+        Ok(accepted) => accept(alloc, form, text, accepted.config(), table, out),
+        Err(refused) => refuse(
+            alloc,
+            form,
+            text,
+            &refused.config,
+            Some(table),
+            &refused.reason,
+            out,
+        ),
+    }
+}
+
+// Judges a configuration, which this text means, and prints the verdict. The table of its tree's places is made once for both.
 fn report_config<W: Write>(
     alloc: Global,
     form: Form,
@@ -75,9 +108,12 @@ fn report_config<W: Write>(
     ensures ok { IfOk result (ReportsConfig form text.now config (W.contents out.old) (W.contents out.new)) }
     ensures err { IfErr result (StopsUnwritten (W.contents out.old) (W.contents out.new)) }
 {
-    match judge(alloc, config) {
-        Ok(accepted) => accept(alloc, form, text, accepted.config(), out),
-        Err(refused) => refuse(alloc, form, text, &refused.config, &refused.reason, out),
+    match places(alloc, config.tree()) {
+        Ok(table) => report_by(alloc, form, text, config, &table, out),
+        Err(fault) => {
+            let reason = untabled(config.tree(), fault);
+            refuse(alloc, form, text, &config, None, &reason, out)
+        }
     }
 }
 

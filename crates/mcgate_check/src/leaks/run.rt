@@ -140,13 +140,42 @@ fn run_by(
     table: &PlaceTable,
     gap: &Gap,
 ) -> Result<Option<Script>, AllocError>
-    requires table { IsTable (config.now.tree ∷ []) table.now }
-    requires taking { IsTaking gap.now.op }
+    requires { IsTable (config.now.tree ∷ []) table.now }
     ensures { IfOk result (IsLeakAnswer config.now gap.now) }
 {
+    if !is_read(gap.op) {
+        return Ok(None);
+    }
     match key_at(alloc, config.tree(), table, &gap.place)? {
         Some(key) => run_over(alloc, config, gap, &key),
         None => Ok(None),
+    }
+}
+
+// The script, by a table that is made of the tree.
+fn run_anew(alloc: Global, config: &Config, gap: &Gap) -> Result<Option<Script>, AllocError>
+    ensures { IfOk result (IsLeakAnswer config.now gap.now) }
+{
+    match places(alloc, config.tree()) {
+        Ok(table) => run_by(alloc, config, &table, gap),
+        Err(PlaceFault::TooManyPlaces) => Ok(None),
+        Err(PlaceFault::NoMemory) => Err(AllocError),
+    }
+}
+
+/// The script of [`refusal_run`], by the table of the tree's places, or where that wasn't made by one that is made here.
+pub(crate) fn run_with(
+    alloc: Global,
+    config: &Config,
+    table: Option<&PlaceTable>,
+    gap: &Gap,
+) -> Result<Option<Script>, AllocError>
+    requires { IfSome table (λ table. IsTable (config.now.tree ∷ []) table.now) }
+    ensures { IfOk result (IsLeakAnswer config.now gap.now) }
+{
+    match table {
+        Some(table) => run_by(alloc, config, table, gap),
+        None => run_anew(alloc, config, gap),
     }
 }
 
@@ -166,12 +195,5 @@ pub fn refusal_run(alloc: Global, config: &Config, gap: &Gap) -> Result<Option<S
     ensures whole { IfOk result (λ found. IfSome found (λ script. is_stepped (map scripted_of script.events.items) ≡ false)) }
     ensures none { IfOk result (λ found. IfNone found (IsRealGap config.now.tree gap.now → MayLack config.now.tree gap.now)) }
 {
-    if !is_read(gap.op) {
-        return Ok(None);
-    }
-    match places(alloc, config.tree()) {
-        Ok(table) => run_by(alloc, config, &table, gap),
-        Err(PlaceFault::TooManyPlaces) => Ok(None),
-        Err(PlaceFault::NoMemory) => Err(AllocError),
-    }
+    run_with(alloc, config, None, gap)
 }

@@ -1,11 +1,7 @@
-use Rattle.std.proofs.Common.{sym, subst}
-use Rattle.route_json.specs.Configuration.{Configuration}
+use Rattle.std.proofs.Common.{subst}
+use Rattle.route_tree.specs.Route.{Route}
 use Rattle.gate_check.specs.Gate.{IsJudged}
-use Rattle.mcgate_check.proofs.Statuses.{certified_in_use}
 use Rattle.mcgate_check.proofs.certifying.certify_config.Goals as goal
 
-pub print_certificate-requires : goal.print_certificate-requires
-print_certificate-requires g c = certified_in_use _ _ _ _ c.in-Ok.ensures.accepted.0 c.config.ensures.config c.tree.ensures.tree c.in-Ok.ensures.accepted.1
-
 pub print_refused-requires : goal.print_refused-requires
-print_refused-requires g c = subst (λ (k : Configuration). IsJudged k.tree c.in-Err.refused.reason) (sym c.in-Err.ensures.refused.0) c.in-Err.ensures.refused.1
+print_refused-requires g c = subst (λ (t : Route). IsJudged t c.untabled-reason.result) c.tree-in-Err.ensures.tree c.untabled-reason.ensures

@@ -9,6 +9,6 @@ use Rattle.mcgate_check.proofs.checking.run_of.Goals as goal
 pub returns-in-Uncovered : goal.returns-in-Uncovered
 returns-in-Uncovered c =
     let config = c.args.config.now in
-    let judged = subst (IsJudged config.tree) c.in-Uncovered.is c.requires in
-    subst (λ (r : Reason). IfOk c.refusal_run.result (IsFoundFor config r)) (sym c.in-Uncovered.is)
-    (found_shows config c.in-Uncovered.gap c.refusal_run.result judged c.refusal_run.ensures.some c.refusal_run.ensures.none)
+    let judged = subst (IsJudged config.tree) c.in-Uncovered.is c.requires.judged in
+    subst (λ (r : Reason). IfOk c.run_with.result (IsFoundFor config r)) (sym c.in-Uncovered.is)
+    (found_shows config c.in-Uncovered.gap c.run_with.result judged c.run_with.ensures)

@@ -8,18 +8,18 @@ use Rattle.mcgate_check.specs.Reporting.{AcceptedIn}
 use Rattle.mcgate_check.specs.declared.reporting.Form.{Form}
 use Rattle.mcgate_check.proofs.reporting.accept.Goals as goal
 
-pub print_accepted-requires : goal.print_accepted-requires
-print_accepted-requires g c = subst IsCertified (sym c.tree.ensures.tree) c.requires
+pub print_accepted_by-requires-clause-certified : goal.print_accepted_by-requires-clause-certified
+print_accepted_by-requires-clause-certified g c = subst IsCertified (sym c.tree.ensures.tree) c.requires.certified
 
-pub explain_accepted-requires : goal.explain_accepted-requires
-explain_accepted-requires g c = subst IsCertified (sym c.tree-in-Explained.ensures.tree) c.requires
+pub explain_accepted-requires-clause-certified : goal.explain_accepted-requires-clause-certified
+explain_accepted-requires-clause-certified g c = subst IsCertified (sym c.tree-in-Explained.ensures.tree) c.requires.certified
 
 pub returns-in-Lines-clause-ok : goal.returns-in-Lines-clause-ok
 returns-in-Lines-clause-ok g c =
     let before = g.W.Write.contents c.args.out.now in
-    let after = g.W.Write.contents c.print_accepted.new.out in
-    subst (λ (f : Form). IfOk c.print_accepted.result (λ status. (status ≡ 0) × AcceptedIn f c.args.text.now c.args.config.now before after)) (sym c.in-Lines.is)
-    (subst (λ (t : Route). IfOk c.print_accepted.result (λ status. (status ≡ 0) × PrintsAccepted t before after)) c.tree.ensures.tree c.print_accepted.ensures.ok)
+    let after = g.W.Write.contents c.print_accepted_by.new.out in
+    subst (λ (f : Form). IfOk c.print_accepted_by.result (λ status. (status ≡ 0) × AcceptedIn f c.args.text.now c.args.config.now before after)) (sym c.in-Lines.is)
+    (subst (λ (t : Route). IfOk c.print_accepted_by.result (λ status. (status ≡ 0) × PrintsAccepted t before after)) c.tree.ensures.tree c.print_accepted_by.ensures.ok)
 
 pub returns-in-Explained-clause-ok : goal.returns-in-Explained-clause-ok
 returns-in-Explained-clause-ok g c =
