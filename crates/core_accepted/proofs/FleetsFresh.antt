@@ -11,11 +11,11 @@ use Rattle.fresh_runs.specs.Run.{Event, Begins, Calls, Replies, Breaks, Turns, R
 use Rattle.fresh_runs.proofs.Stamps.{get_left}
 use Rattle.fresh_runs.proofs.Fresh as sharing
 use Rattle.core_accepted.specs.Late.{Moment, Does, Lands, told, HasFailed, LateRun, WasOver, LandsInTime, LandsEver}
-use Rattle.core_accepted.specs.Pipes.{CopiesStay, WasOverOn}
+use Rattle.core_accepted.specs.Pipes.{WasOverOn}
 use Rattle.core_accepted.specs.FleetLaws.{NothingCopies, FleetIsFresh, OneProxyIsFresh, StickyIsFresh, PatientIsFresh, LandsHarmless, SharedFleetIsFresh, SettledIsFresh, WasSettled}
 use Rattle.core_accepted.proofs.Late.{made, as_run}
 use Rattle.core_accepted.proofs.LateFresh.{fresh}
-use Rattle.core_accepted.proofs.Pipes.{timely, failed_then, stuck_timely}
+use Rattle.core_accepted.proofs.Pipes.{CopiesStay, timely, failed_then, stuck_timely}
 
 no_copy : {A : Type 0} (i : ℕ) → Client ≡ CopyOf i → A
 no_copy i e = absurd cc

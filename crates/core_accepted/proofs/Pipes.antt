@@ -15,8 +15,14 @@ use Rattle.fresh_runs.proofs.Stamps.{by_test, get_left, clears_split}
 use Rattle.fresh_runs.proofs.Runs.{some_ask, no_ask, differs, differ, second, new_calls, ended_since, over}
 use Rattle.core_accepted.specs.Late.{Moment, Does, Lands, told, begun_late, LateRun, WasOver, IsTimely, LandsInTime, LandsEver}
 use Rattle.core_accepted.specs.FleetLaws.{IsSticky}
-use Rattle.core_accepted.specs.Pipes.{PipeStep, Sends, Moves, Closes, moments_of, is_pipe, behind_first, IsFirstIn, pipe_of, PipeSteps, WasOverOn, CopiesStay}
+use Rattle.core_accepted.specs.Pipes.{PipeStep, Sends, Moves, Closes, moments_of, is_pipe, behind_first, IsFirstIn, pipe_of, PipeSteps, WasOverOn}
 use Rattle.core_accepted.proofs.Late.{way_begun, made, as_run, way_told}
+
+-- where a command's calls may hold a copy, all commands send over its connections
+abbrev pub CopiesStay : (ℕ → ℕ → ℕ) → (ℕ → Ask → List Call → Answer → Option ℕ → Type 0) → Type 0
+CopiesStay line words =
+    (number : ℕ) (ask : Ask) (calls : List Call) (reply : Answer) (from : Option ℕ) → words number ask calls reply from
+    → (j : ℕ) (call : Call) (i : ℕ) → slice_get calls j ≡ Some call → call.origin ≡ CopyOf i → (n s : ℕ) → line n s ≡ line number s
 
 is_pipe_true : (q t p s : ℕ) → is_pipe q t p s ≡ true → (q ≡ p) × (t ≡ s)
 is_pipe_true q t p s e =

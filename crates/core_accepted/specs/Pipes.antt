@@ -3,7 +3,6 @@ use Rattle.std.specs.Prelude.{◌≡◌, ℕ, Bool, true, false, List, [], ◌�
 use Rattle.mc_types.specs.declared.ask.Ask.{Ask}
 use Rattle.mc_types.specs.declared.answer.Answer.{Answer}
 use Rattle.mc_types.specs.declared.call.Origin.{Origin}
-use Rattle.mc_types.specs.declared.call.Origin.TheVariants.{CopyOf}
 use Rattle.mc_types.specs.declared.call.Outcome.TheVariants.{Failed}
 use Rattle.mc_types.specs.Items.{Item}
 use Rattle.fresh_runs.specs.Calls.{Call, End, Read, Unread, Never}
@@ -97,9 +96,3 @@ module _ (line : ℕ → ℕ → ℕ) where
   abbrev pub WasOverOn : List Event → ℕ → ℕ → Type 0
   WasOverOn past n s =
       HasEnded past s × ((j : ℕ) (call : Call) → slice_get (calls_so_far past s) j ≡ Some call → begins_stamp call.ask.op ≡ true → call.outcome ≡ Failed → line n call.server ≡ line s call.server)
-
-  -- where a command's calls may hold a copy, all commands send over its connections
-  abbrev pub CopiesStay : (ℕ → Ask → List Call → Answer → Option ℕ → Type 0) → Type 0
-  CopiesStay words =
-      (number : ℕ) (ask : Ask) (calls : List Call) (reply : Answer) (from : Option ℕ) → words number ask calls reply from
-      → (j : ℕ) (call : Call) (i : ℕ) → slice_get calls j ≡ Some call → call.origin ≡ CopyOf i → (n s : ℕ) → line n s ≡ line number s

@@ -10,7 +10,7 @@ use Rattle.fresh_runs.specs.Protocol.{Protocol}
 use Rattle.fresh_runs.specs.Log.{Part}
 use Rattle.fresh_runs.specs.Overlap.{Slot, Entry, Feeds, Starts, Sends, Happens, Ends, Shows, Passes, Gives, Drops, Frees, Resets, part_slot, slot_in, answered_in, behind_head, run_of, queue_of, Follows}
 use Rattle.fresh_runs.specs.Stream.{Done}
-use Rattle.fresh_runs.specs.OverlapStream.{IsReplied, replies_after, done_after, replies_of, done_of, begun_by, shown_slots, all_replies, AreTold, AreReplies}
+use Rattle.fresh_runs.specs.OverlapStream.{IsReplied, replies_after, done_after, replies_of, done_of, begun_by, shown_slots, all_replies, AreReplies}
 
 some_slot : {P : Protocol} (a b : Slot P) → ◌≡◌ {A = Option (Slot P)} (Some a) (Some b) → a ≡ b
 some_slot a b e = cc
@@ -30,6 +30,11 @@ module _ (P : Protocol) where
         | true ↦ refl
         | false ↦ ap (λ l. x.number ∷ l) (numbers_same number reply xs)
       ]
+
+  -- a command that has its reply has that of the run
+  abbrev AreTold : List Event → List (Slot P) → Type 0
+  AreTold past [] = Unit {0}
+  AreTold past (slot ∷ slots) = IfSome slot.reply (λ reply. IsReplied past slot.number slot.ask.key reply) × AreTold past slots
 
   told_later : (event : Event) (past : List Event) (slots : List (Slot P)) → AreTold past slots → AreTold (event ∷ past) slots
   told_later event past [] h = tt

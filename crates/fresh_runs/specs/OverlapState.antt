@@ -184,11 +184,6 @@ module _ {P : Protocol} where
     pub turn : new.turn ≡ old.turn
     pub version : new.version ≡ old.version
 
-  -- the entry comes, and leads there
-  pub record Steps (words : Words) (Bars : ℕ → Ask → ℕ → Ask → Type 0) (old : OverlapState P) (entry : Entry P) (new : OverlapState P) : Type 0 where
-    pub may : MayStep Bars old entry
-    pub like : IsLike new (after words entry old)
-
   -- these entries come one after another, the latest first, and lead there
   abbrev pub walked : Words → OverlapState P → List (Entry P) → OverlapState P
   walked words old [] = old

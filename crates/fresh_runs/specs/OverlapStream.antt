@@ -1,5 +1,5 @@
 -- The bytes of a client in a log of overlapping commands, and the messages that were done of them. Source: mcgate's own.
-use Rattle.std.specs.Prelude.{◌≡◌, ℕ, Bool, true, false, List, [], ◌∷◌, ◌++◌, Option, Some, None, IfSome, if◌then◌else◌, nat_eq, ◌⊎◌}
+use Rattle.std.specs.Prelude.{◌≡◌, ℕ, Bool, true, false, List, [], ◌∷◌, ◌++◌, Option, Some, None, if◌then◌else◌, nat_eq, ◌⊎◌}
 use Rattle.mc_types.specs.declared.answer.Answer.{Answer}
 use Rattle.fresh_runs.specs.Run.{Event, Begins, Calls, Replies, Breaks, Turns, Restarts}
 use Rattle.fresh_runs.specs.Protocol.{Protocol}
@@ -152,11 +152,6 @@ module _ {P : Protocol} where
   abbrev pub all_replies : List (Done P) → List Answer
   all_replies [] = []
   all_replies (done ∷ more) = done.replies ++ all_replies more
-
-  -- a command that has its reply has that of the run
-  abbrev pub AreTold : List Event → List (Slot P) → Type 0
-  AreTold past [] = Unit {0}
-  AreTold past (slot ∷ slots) = IfSome slot.reply (λ reply. IsReplied past slot.number slot.ask.key reply) × AreTold past slots
 
   -- these are the replies of the run to these commands, one for each
   abbrev pub AreReplies : List Event → List (Slot P) → List Answer → Type 0

@@ -11,10 +11,10 @@ use Rattle.gate_check.specs.declared.places.table.ClassRows.{ClassRows}
 use Rattle.gate_check.specs.declared.places.table.PlaceTable.{PlaceTable}
 use Rattle.gate_check.specs.declared.places.table.Certificate.{Certificate}
 use Rattle.gate_coverage.specs.Pools.{has, servers_at, taken_pools}
-use Rattle.gate_check.specs.TableRows.{with_number, IsRowOf}
+use Rattle.gate_check.specs.TableRows.{IsRowOf}
 use Rattle.gate_check.specs.Tables.{IsTable}
 use Rattle.gate_check.specs.Valid.{EachClass, IsClass, IsShaped, IsRising, IsValidRow, AreAfter, AreRuns, AreValidRows, run_at}
-use Rattle.gate_check.proofs.Proposals.{by_place, stay_rising, has_with, valid_if_covered}
+use Rattle.gate_check.proofs.Proposals.{with_number, by_place, stay_rising, has_with, valid_if_covered}
 use Rattle.gate_check.proofs.Tabling.{table_twice}
 use Rattle.gate_check.proofs.PlacesValidity.{looks_are_enough}
 use Rattle.gate_check.specs.declared.pairs.TwoEnd.TheVariants as tables

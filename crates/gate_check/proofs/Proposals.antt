@@ -1,6 +1,6 @@
 -- The servers that are taken make a valid row where the place has no gap.
 use Rattle.std.proofs.Common.{◌≡◌, zero, suc, ◌+◌, length, ℕ, ◌<◌, ◌≤◌, Bool, true, false, cond, ◌||◌, List, [], ◌∷◌, nat_eq, nat_lt, Option, Some, None, ◌⊎◌, inl, inr, ⊎_elim, refl, sym, ap, ◌∙◌, subst, arith}
-use Rattle.std.specs.Prelude.{slice_index_or}
+use Rattle.std.specs.Prelude.{insert, slice_index_or, if◌then◌else◌}
 use Rattle.std.proofs.lemmas.Bool.{eqb-true, eq-eqb, leb-true}
 use Rattle.route_tree.specs.Each.{Each, IsIn}
 use Rattle.route_tree.specs.Plan.{IsGood}
@@ -10,13 +10,25 @@ use Rattle.gate_check.specs.Valid.{IsRising}
 use Rattle.gate_coverage.proofs.Choices.{bool_is, either_left, either_right, either_split}
 use Rattle.gate_coverage.proofs.Finding.{taken_is_exact}
 use Rattle.gate_coverage.specs.Computed.{is_taken}
-use Rattle.gate_check.specs.TableRows.{number_in, put_number, with_number, IsRowOf}
+use Rattle.gate_check.specs.TableRows.{IsRowOf}
 use Rattle.gate_coverage.specs.Pools.{has, taken_pools}
 use Rattle.gate_check.specs.Proposed.{IsValidIfCovered}
 use Rattle.gate_coverage.proofs.SomeTaken.{takes, taken_takes}
 use Rattle.gate_coverage.proofs.TakenPools.{pools_are_taken}
 use Rattle.route_tree.specs.Route.{Route}
 use Rattle.route_tree.specs.At.{plain_for}
+
+-- where the number goes in, unless it is there
+abbrev number_in : List ℕ → ℕ → Option ℕ
+number_in [] s = Some 0
+number_in (x ∷ xs) s = if nat_lt s x then Some 0 else (if nat_eq s x then None else place_after_it (number_in xs s))
+
+abbrev put_number : List ℕ → ℕ → Option ℕ → List ℕ
+put_number xs s None = xs
+put_number xs s (Some i) = insert xs i s
+
+abbrev pub with_number : List ℕ → ℕ → List ℕ
+with_number xs s = put_number xs s (number_in xs s)
 
 put_after : (x : ℕ) (xs : List ℕ) (s : ℕ) (o : Option ℕ) → put_number (x ∷ xs) s (place_after_it o) ≡ x ∷ put_number xs s o
 put_after x xs s None = refl

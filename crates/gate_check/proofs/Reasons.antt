@@ -25,7 +25,7 @@ use Rattle.gate_check.specs.declared.finding.Found.{Found}
 use Rattle.gate_check.specs.declared.gap.Gap.{Gap}
 use Rattle.gate_check.specs.Ends.{IsClassEnd, IsTableEnd, EndsAt, AreValidBelow, AreValidBefore}
 use Rattle.gate_check.specs.Gate.{IsInvalid, IsBadRow, AreValidUpTo, IsGapMet}
-use Rattle.gate_check.specs.Shapes.{IsMisshapedAt}
+use Rattle.gate_check.proofs.Shaping.{IsMisshapedAt}
 
 -- the rows of a class
 pub rows_of : (P : Class → ClassRows → Type 0) (cs : List Class) (rs : List ClassRows) (i : ℕ) (c : Class) → EachClass P cs rs → slice_get cs i ≡ Some c → (r : ClassRows) × (slice_get rs i ≡ Some r) × P c r

@@ -12,8 +12,19 @@ use Rattle.gate_check.specs.declared.places.table.PlaceTable.{PlaceTable}
 use Rattle.gate_check.specs.Places.{place_at}
 use Rattle.gate_check.specs.Tables.{IsTable}
 use Rattle.gate_check.specs.Valid.{AreAfter, AreRuns, EachClass, IsClass, run_at}
-use Rattle.gate_check.specs.Proposed.{last_of, IsLastRun, IsWithRun, AreRunsBelow, AreRowsBelow, AreProposed, IsValidIfCovered}
+use Rattle.gate_check.specs.Proposed.{last_of, IsLastRun, IsWithRun, AreProposed, IsValidIfCovered}
 use Rattle.gate_check.proofs.PlacesAnswering.{at_index}
+
+-- the runs of all residues below this one
+abbrev AreRunsBelow : ℕ → List Run → Type 0
+AreRunsBelow n [] = n ≡ 0
+AreRunsBelow n (run ∷ runs) = (0 < n) × AreRuns n (run ∷ runs)
+
+-- and what each of them is to be
+abbrev pub AreRowsBelow : Route → Option (List ℕ) → ℕ → ℕ → List Run → Type 0
+AreRowsBelow tree prefix modulus n runs =
+    AreRunsBelow n runs
+    × ((r : ℕ) → r < n → IsValidIfCovered (tree_at_place tree (place_at prefix r modulus)) (run_at [] runs r))
 
 at_most : (a b : ℕ) → a ≤ b → nat_le a b ≡ true
 at_most a b h = grind arith

@@ -5,9 +5,23 @@ use Rattle.gate_check.specs.declared.places.table.Class.{Class}
 use Rattle.gate_check.specs.declared.places.table.Run.{Run}
 use Rattle.gate_check.specs.declared.places.table.ClassRows.{ClassRows}
 use Rattle.gate_check.specs.Texts.{place_after_it}
-use Rattle.gate_check.specs.Valid.{AreAfter, AreRuns, IsShaped}
+use Rattle.gate_check.specs.Valid.{AreAfter, AreRuns, EachClass, IsShaped}
 use Rattle.gate_coverage.proofs.Choices.{both, both_split}
-use Rattle.gate_check.specs.Shapes.{is_rising, has_runs, is_shaped, first_misshaped, IfMisshaped}
+use Rattle.gate_check.specs.Shapes.{is_rising, has_runs, is_shaped, first_misshaped}
+
+-- the class of this index is the first of a wrong shape
+pub record IsMisshapedAt (classes : List Class) (all : List ClassRows) (i : ℕ) : Type 0 where
+  pub class : Class
+  pub rows : ClassRows
+  pub is_class : slice_get classes i ≡ Some class
+  pub are_rows : slice_get all i ≡ Some rows
+  pub misshaped : IsShaped class rows → ⊥
+  pub before : (j : ℕ) (c : Class) (r : ClassRows) → j < i → slice_get classes j ≡ Some c → slice_get all j ≡ Some r → IsShaped c r
+
+-- all have the right shape, or this one is the first that hasn't
+abbrev pub IfMisshaped : List Class → List ClassRows → Option ℕ → Type 0
+IfMisshaped classes all None = EachClass IsShaped classes all
+IfMisshaped classes all (Some i) = IsMisshapedAt classes all i
 
 rising_is : (last m : ℕ) (runs : List Run) → is_rising last m runs ≡ true → AreAfter last m runs
 rising_is last m [] h = tt

@@ -1,5 +1,5 @@
 -- What is proposed: the servers that are taken, rising.
-use Rattle.std.specs.Prelude.{◌≡◌, ℕ, ◌<◌, List, [], ◌∷◌, ◌++◌, Option, length, ◌⊎◌}
+use Rattle.std.specs.Prelude.{◌≡◌, ℕ, ◌<◌, List, [], ◌∷◌, ◌++◌, length, ◌⊎◌}
 use Rattle.route_tree.specs.Route.{Route}
 use Rattle.route_tree.specs.Plan.{Plan}
 use Rattle.route_tree.specs.Place.{tree_at_place}
@@ -10,7 +10,7 @@ use Rattle.gate_check.specs.declared.places.table.PlaceTable.{PlaceTable}
 use Rattle.gate_check.specs.declared.places.table.Certificate.{Certificate}
 use Rattle.gate_check.specs.Places.{place_at}
 use Rattle.gate_coverage.specs.Cover.{Covers}
-use Rattle.gate_check.specs.Valid.{IsTableOf, IsShaped, IsValidRow, AreRuns, EachClass, row_at, run_at}
+use Rattle.gate_check.specs.Valid.{IsTableOf, IsShaped, IsValidRow, EachClass, row_at, run_at}
 
 -- valid, unless the place has a gap
 abbrev pub IsValidIfCovered : Plan → List ℕ → Type 0
@@ -30,16 +30,6 @@ abbrev pub IsWithRun : ℕ → List ℕ → List Run → List Run → Type 0
 IsWithRun residue servers old new =
     (IsLastRun old servers × (new ≡ old))
     ⊎ ((run : Run) × (run.first ≡ residue) × (run.servers.items ≡ servers) × (new ≡ old ++ run ∷ []))
-
--- the runs of all residues below this one
-abbrev pub AreRunsBelow : ℕ → List Run → Type 0
-AreRunsBelow n [] = n ≡ 0
-AreRunsBelow n (run ∷ runs) = (0 < n) × AreRuns n (run ∷ runs)
-
-abbrev pub AreRowsBelow : Route → Option (List ℕ) → ℕ → ℕ → List Run → Type 0
-AreRowsBelow tree prefix modulus n runs =
-    AreRunsBelow n runs
-    × ((r : ℕ) → r < n → IsValidIfCovered (tree_at_place tree (place_at prefix r modulus)) (run_at [] runs r))
 
 -- what the rows of a class are to be
 abbrev pub AreProposed : Route → ℕ → Class → ClassRows → Type 0

@@ -1,5 +1,5 @@
 -- Whether a certificate has the shape of a table, as tests.
-use Rattle.std.specs.Prelude.{◌≡◌, ℕ, ◌<◌, Bool, true, false, ◌&&◌, List, [], ◌∷◌, Option, Some, None, slice_get, nat_eq, nat_lt, if◌then◌else◌}
+use Rattle.std.specs.Prelude.{ℕ, Bool, true, false, ◌&&◌, List, [], ◌∷◌, Option, Some, None, nat_eq, nat_lt, if◌then◌else◌}
 use Rattle.route_tree.specs.Route.{Route}
 use Rattle.gate_check.specs.declared.places.table.Class.{Class}
 use Rattle.gate_check.specs.declared.places.table.Run.{Run}
@@ -7,7 +7,6 @@ use Rattle.gate_check.specs.declared.places.table.ClassRows.{ClassRows}
 use Rattle.gate_check.specs.declared.places.table.PlaceTable.{PlaceTable}
 use Rattle.gate_check.specs.declared.places.table.Certificate.{Certificate}
 use Rattle.gate_check.specs.Texts.{place_after_it}
-use Rattle.gate_check.specs.Valid.{EachClass, IsShaped}
 use Rattle.gate_check.specs.Gate.{IsBadRow, IsFirstGap, IsGapMet, IsInvalid}
 use Rattle.gate_check.specs.declared.gap.Reason.{Reason}
 use Rattle.gate_check.specs.declared.gap.Reason.TheVariants as reasons
@@ -31,20 +30,6 @@ abbrev pub first_misshaped : List Class → List ClassRows → Option ℕ
 first_misshaped [] rows = None
 first_misshaped (c ∷ cs) [] = None
 first_misshaped (c ∷ cs) (r ∷ rs) = if is_shaped c r then place_after_it (first_misshaped cs rs) else Some 0
-
--- the class of this index is the first of a wrong shape
-pub record IsMisshapedAt (classes : List Class) (all : List ClassRows) (i : ℕ) : Type 0 where
-  pub class : Class
-  pub rows : ClassRows
-  pub is_class : slice_get classes i ≡ Some class
-  pub are_rows : slice_get all i ≡ Some rows
-  pub misshaped : IsShaped class rows → ⊥
-  pub before : (j : ℕ) (c : Class) (r : ClassRows) → j < i → slice_get classes j ≡ Some c → slice_get all j ≡ Some r → IsShaped c r
-
--- all have the right shape, or this one is the first that hasn't
-abbrev pub IfMisshaped : List Class → List ClassRows → Option ℕ → Type 0
-IfMisshaped classes all None = EachClass IsShaped classes all
-IfMisshaped classes all (Some i) = IsMisshapedAt classes all i
 
 -- why the looks by this table end badly
 abbrev pub IsLookReason : Route → PlaceTable → Certificate → Reason → Type 0

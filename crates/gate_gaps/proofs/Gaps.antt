@@ -17,10 +17,10 @@ use Rattle.gate_coverage.specs.Cover.{IsTaking, deleting_dialect}
 use Rattle.gate_gaps.specs.Turns.{acks, finds}
 use Rattle.gate_gaps.specs.Beside.{IsElsewhere, answered}
 use Rattle.gate_gaps.specs.Bait.{delete_of, read_of, bait_answer, IsBaited}
-use Rattle.gate_gaps.specs.Scripts.{leaking_script, Leaks, IsOneAsk}
+use Rattle.gate_gaps.specs.Scripts.{leaking_script, Leaks}
 use Rattle.gate_gaps.proofs.Determining.{are_determined}
 use Rattle.gate_gaps.proofs.Bait.{bait_is_taken}
-use Rattle.gate_gaps.proofs.Scripts.{IsAnswered, scripts_leak}
+use Rattle.gate_gaps.proofs.Scripts.{IsOneAsk, IsAnswered, scripts_leak}
 
 last_answered : (s : ℕ) (ask : Ask) (last : List Call) → IsElsewhere s ask last → Each IsAnswered last
 last_answered s ask last (inl e) = subst (Each IsAnswered) (sym e) tt

@@ -18,8 +18,15 @@ use Rattle.route_tree.specs.Each.{Each}
 use Rattle.gate_coverage.proofs.Choices.{bool_is}
 use Rattle.gate_gaps.specs.Beside.{IsTry}
 use Rattle.gate_gaps.specs.Leaking.{call_end, played}
-use Rattle.gate_gaps.specs.Scripts.{fail_lines, leaking_script, Leaks, IsOneAsk}
+use Rattle.gate_gaps.specs.Scripts.{fail_lines, leaking_script, Leaks}
 use Rattle.gate_gaps.proofs.Trying.{pick_true, pick_false}
+
+-- from this place the text is read as one message that asks this alone, and is done with its reply
+pub record IsOneAsk (P : Protocol) (place : P.Place) (text : List ℕ) (ask : Ask) (reply : Answer) (message : P.Message) (next : P.Place) : Type 0 where
+  pub reads : P.Reads (P.fed place text) message next
+  pub asks : P.asks_of message ≡ ask ∷ []
+  pub ends : P.ends message 0 reply ≡ true
+  pub stuck : IsStuck P next
 
 -- ---- small facts
 

@@ -1,11 +1,11 @@
 -- Scripts that leak, and their logs, whatever the protocol. Source: mcgate's own.
-use Rattle.std.specs.Prelude.{◌≡◌, ℕ, zero, suc, ◌≤◌, true, List, [], ◌∷◌, ◌++◌, map, Option}
+use Rattle.std.specs.Prelude.{◌≡◌, ℕ, zero, suc, ◌≤◌, List, [], ◌∷◌, ◌++◌, map, Option}
 use Rattle.mc_types.specs.declared.ask.Ask.{Ask}
 use Rattle.mc_types.specs.declared.answer.Answer.{Answer}
 use Rattle.mc_types.specs.Items.{Item}
 use Rattle.fresh_runs.specs.Calls.{Words}
 use Rattle.fresh_runs.specs.Run.{IsFreshByNumber, commands_in}
-use Rattle.fresh_runs.specs.Protocol.{Protocol, IsStuck}
+use Rattle.fresh_runs.specs.Protocol.{Protocol}
 use Rattle.fresh_runs.specs.Log.{Scripted, Piece, Fail, Hold, Before}
 use Rattle.fresh_runs.specs.Overlap.{run_of, NothingIsLeft}
 use Rattle.fresh_runs.specs.OverlapStream.{IsReplied}
@@ -30,10 +30,3 @@ pub record Leaks (P : Protocol) (words : Words) (Bars : ℕ → Ask → ℕ → 
   pub settled : NothingIsLeft version (core_of log)
   pub replied : (n : ℕ) → 1 ≤ n → n ≤ commands_in (run_of (core_of log)) → (key : List ℕ) × (reply : Answer) × IsReplied (run_of (core_of log)) n key reply
   pub leaks : IsFreshByNumber opening (run_of (core_of log)) → ⊥
-
--- from this place the text is read as one message that asks this alone, and is done with its reply
-pub record IsOneAsk (P : Protocol) (place : P.Place) (text : List ℕ) (ask : Ask) (reply : Answer) (message : P.Message) (next : P.Place) : Type 0 where
-  pub reads : P.Reads (P.fed place text) message next
-  pub asks : P.asks_of message ≡ ask ∷ []
-  pub ends : P.ends message 0 reply ≡ true
-  pub stuck : IsStuck P next

@@ -20,11 +20,18 @@ use Rattle.gate_growth.specs.Pages.{IsPageOf}
 use Rattle.gate_growth.specs.Classes.{class_prefixes, IsBest, IsBestAt, ArePagesBelow, ArePagesOf}
 use Rattle.gate_growth.specs.PlaceRows.{rows_below, place_rows}
 use Rattle.gate_growth.specs.LeftGaps.{IfFirstLeft, earlier}
-use Rattle.gate_growth.specs.Turning.{AreBefore, AreKnown, TurnsTrees, TurnsBelow, TurnsPage, TurnsGap}
+use Rattle.gate_growth.specs.Turning.{AreBefore, AreKnown, TurnsTrees, TurnsPage, TurnsGap}
 use Rattle.gate_growth.proofs.Paging.{bound_more}
 use Rattle.gate_growth.proofs.Coarse.{plans_coarse, best_tests}
 use Rattle.gate_growth.proofs.RowPlaces.{rows_append, rows_one}
 use Rattle.gate_growth.proofs.FirstLeft.{earlier_first, one_row}
+
+-- the pages of the class of this prefix, at its places with remainders below n, after one tree more: whatever the trees were
+abbrev pub TurnsBelow : List ClassPages → Successor → Option (List ℕ) → List Page → ℕ → Option LeftGap → Type 0
+TurnsBelow known step prefix pages n gap =
+    (arbitrary : ℕ → Bool) (trees : List Route) (modulus bound : ℕ) → AreBefore arbitrary trees step.number step.begun.now → bound ≤ length step.begun.now
+    → AreKnown arbitrary trees modulus bound known
+    → ArePagesBelow arbitrary (trees ++ step.tree.now ∷ []) prefix step.modulus (length step.begun.now) pages n × IfFirstLeft arbitrary trees step.tree.now (rows_below prefix step.modulus n) gap
 
 -- ---- one place
 

@@ -6,8 +6,8 @@ use Rattle.route_tree.specs.Place.{tree_at_place}
 use Rattle.route_tree.specs.declared.place.Place.{Place}
 use Rattle.gate_growth.specs.Grown.{plans_at}
 use Rattle.gate_growth.specs.Pages.{AreBegun, IsPageOf}
-use Rattle.gate_growth.specs.Classes.{class_prefixes, ArePagesBelow, ArePagesOf}
-use Rattle.gate_growth.specs.PlaceRows.{rows_below, place_rows, AreRowsOf}
+use Rattle.gate_growth.specs.Classes.{class_prefixes, ArePagesOf}
+use Rattle.gate_growth.specs.PlaceRows.{place_rows, AreRowsOf}
 use Rattle.gate_growth.specs.LeftGaps.{IfLeftBy, IfFirstLeft}
 use Rattle.gate_growth.specs.declared.ledger.page.Beginning.{Beginning}
 use Rattle.gate_growth.specs.declared.ledger.page.Page.{Page}
@@ -36,13 +36,6 @@ abbrev pub TurnsTrees : List ClassPages → Successor → List ClassPages → Op
 TurnsTrees known step classes gap =
     (arbitrary : ℕ → Bool) (trees : List Route) (modulus bound : ℕ) → AreBefore arbitrary trees step.number step.begun.now → bound ≤ length step.begun.now
     → AreKnown arbitrary trees modulus bound known → AreTurned arbitrary trees step.tree.now step.modulus (length step.begun.now) classes gap
-
--- the same of the class of this prefix and its places with remainders below n
-abbrev pub TurnsBelow : List ClassPages → Successor → Option (List ℕ) → List Page → ℕ → Option LeftGap → Type 0
-TurnsBelow known step prefix pages n gap =
-    (arbitrary : ℕ → Bool) (trees : List Route) (modulus bound : ℕ) → AreBefore arbitrary trees step.number step.begun.now → bound ≤ length step.begun.now
-    → AreKnown arbitrary trees modulus bound known
-    → ArePagesBelow arbitrary (trees ++ step.tree.now ∷ []) prefix step.modulus (length step.begun.now) pages n × IfFirstLeft arbitrary trees step.tree.now (rows_below prefix step.modulus n) gap
 
 -- the page of a place after the tree, whatever those were of which the old one tells
 abbrev pub TurnsPage : Successor → Place → Page → Page → Type 0

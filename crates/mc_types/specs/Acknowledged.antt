@@ -1,8 +1,6 @@
 -- When a delete is acknowledged. Source: memcached's protocol.txt, "Deletion" and "Meta Delete".
 use Rattle.std.specs.Prelude.{◌≡◌, Bool, true, false}
 use Rattle.mc_types.specs.declared.ask.Op.TheVariants.{Delete}
-use Rattle.mc_types.specs.declared.ask.Dialect.{Dialect}
-use Rattle.mc_types.specs.declared.ask.Dialect.TheVariants as dialects
 use Rattle.mc_types.specs.declared.ask.Ask.{Ask}
 use Rattle.mc_types.specs.declared.answer.Code.{Code}
 use Rattle.mc_types.specs.declared.answer.Code.TheVariants.{Hd, Va, En, Ns, Ex, Nf}
@@ -36,11 +34,3 @@ says_gone (ServerError t) = false
 -- the ask is a delete, and the answer says that the key is gone
 abbrev pub Acknowledges : Ask → Answer → Type 0
 Acknowledges ask answer = (ask.op ≡ Delete) × (says_gone answer ≡ true)
-
--- the two kinds of delete, `delete` and `md`
-pub data Deleting : Type 0 where
-  ByDelete ByMd : Deleting
-
-abbrev pub dialect_of : Deleting → Dialect
-dialect_of ByDelete = dialects.Classic
-dialect_of ByMd = dialects.Meta

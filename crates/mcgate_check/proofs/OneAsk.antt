@@ -26,7 +26,7 @@ use Rattle.gate_coverage.specs.declared.deleting.Deleting.TheVariants as kinds
 use Rattle.gate_coverage.specs.Cover.{IsTaking}
 use Rattle.gate_coverage.proofs.Choices.{either_right}
 use Rattle.gate_gaps.specs.Bait.{delete_of, read_of}
-use Rattle.gate_gaps.specs.Scripts.{IsOneAsk}
+use Rattle.gate_gaps.proofs.Scripts.{IsOneAsk}
 use Rattle.gate_gaps.proofs.Bait.{read_is, delete_is}
 use Rattle.mcgate_check.specs.Commands.{read_text, delete_text}
 

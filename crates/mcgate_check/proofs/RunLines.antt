@@ -5,7 +5,8 @@ use Rattle.mc_types.specs.KeyText.{IsKey}
 use Rattle.fresh_runs.specs.Log.{Scripted, Piece, Fail, Hold, Before}
 use Rattle.gate_gaps.specs.Scripts.{fail_lines}
 use Rattle.mcgate_check.specs.Commands.{delete_text, read_text, script_for}
-use Rattle.script_events.specs.LineLaws.{HasLine, HaveLines, HasWidths, HaveWidths}
+use Rattle.script_events.specs.LineLaws.{HasLine, HaveLines, HasWidths}
+use Rattle.script_events.proofs.Widths.{HaveWidths}
 
 wide_both : (xs ys : List Scripted) → HaveWidths (xs ++ ys) → HaveWidths xs × HaveWidths ys
 wide_both [] ys h = (tt, h)

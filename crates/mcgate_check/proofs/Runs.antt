@@ -10,7 +10,8 @@ use Rattle.gate_check.specs.Gate.{IsJudged}
 use Rattle.script_events.specs.declared.script.Script.{Script}
 use Rattle.script_events.specs.Scripted.{Scripted, scripted_of}
 use Rattle.mcgate_check.specs.Refusals.{IsLeakAnswer, IsRefusalRun, IsRealGap}
-use Rattle.script_events.specs.LineLaws.{HaveLines, HaveWidths, AreReadBack}
+use Rattle.script_events.specs.LineLaws.{HaveLines, AreReadBack}
+use Rattle.script_events.proofs.Widths.{HaveWidths}
 use Rattle.script_events.proofs.LinesReadBack.{scripts_are_read_back}
 use Rattle.script_events.proofs.Widths.{IsWide, have_widths}
 use Rattle.mcgate_check.specs.Checking.{ShowsReason, IsFoundFor, run_lines}

@@ -1,5 +1,5 @@
 -- The gate's answers where servers began as is said, and that a run by the trees that it accepted then is fresh.
-use Rattle.std.proofs.Common.{◌≡◌, ℕ, zero, suc, ◌+◌, ◌-◌, ◌<◌, ◌≤◌, Bool, true, false, List, [], ◌∷◌, ◌++◌, length, length-append, map, take, get_or, slice_get, Option, Some, None, Result, refl, sym, ap, ◌∙◌, subst, arith, inl, inr}
+use Rattle.std.proofs.Common.{◌≡◌, ℕ, zero, suc, ◌+◌, ◌-◌, ◌<◌, ◌≤◌, true, false, List, [], ◌∷◌, ◌++◌, length, length-append, map, take, get_or, slice_get, Option, Some, None, refl, sym, ap, ◌∙◌, subst, arith, inl, inr}
 use Rattle.std.specs.Prelude.{IfOk, ok_or, ◌⊎◌}
 use Rattle.mc_types.specs.Items.{Item}
 use Rattle.fresh_runs.specs.Log.{Shown}
@@ -34,7 +34,6 @@ use Rattle.script_events.specs.declared.script.DriveFault.TheVariants.{BadEvent,
 use Rattle.script_events.specs.declared.servers.servers.ScriptServers.{ScriptServers}
 use Rattle.script_events.specs.Scripted.{Scripted, transcript_of}
 use Rattle.script_events.specs.Opening.{opening_of}
-use Rattle.script_events.specs.Reloads.{tree_after}
 use Rattle.script_events.proofs.Due.{one_more_taken}
 use Rattle.script_run.specs.Standing.{tree_by}
 use Rattle.script_run.specs.Driving.{trees_loaded, loaded_trees, RunsBy, DrivesStepped, StepsPart, EndsStepped}
@@ -43,7 +42,7 @@ use Rattle.script_run.specs.Stepped.{StepsFreshly, StepsPartFreshly, EndsSteps}
 use Rattle.script_run.specs.declared.accepted.judging.Loading.{Loading}
 use Rattle.script_run.specs.declared.accepted.judging.Loading.TheVariants.{Loaded, Refused}
 use Rattle.script_run.proofs.Accepting.{tree_at_number}
-use Rattle.script_run.proofs.Loadings.{accepted_in, accepted_rise, last_of_more, more_at, after_none, after_one}
+use Rattle.script_run.proofs.Loadings.{tree_after, accepted_in, accepted_rise, last_of_more, more_at, after_none, after_one}
 use Rattle.script_run.proofs.Steppings.{have_come, alone}
 use Rattle.mcgate_replay.specs.Growing.{MayNotFollowKnown, ForAnyReason, JudgesNext, JudgesAll, AreFollowed, IsFew, held_after, loading_of_unsound}
 

@@ -2,7 +2,7 @@
 use Rattle.std.proofs.Common.{◌≡◌, ◌≤◌, ◌<◌, ℕ, ◌+◌, ◌*◌, List, [], ◌∷◌, ◌++◌, length, Result, Ok, refl, sym, ap, arith, subst}
 use Rattle.mc_types.specs.KeyText.{IsKey}
 use Rattle.mc_types.specs.declared.ask.Op.{Op}
-use Rattle.route_tree.specs.Route.{Route, ByOperation, ByPrefix, IsNotEmpty, IsGood, AreGood, ArePoliciesGood, ArePrefixesGood, depth, depth_of_all, depth_of_policies, depth_of_prefixes, count, count_of_all, count_of_policies, count_of_prefixes}
+use Rattle.route_tree.specs.Route.{Route, ByOperation, ByPrefix, HasChild, IsGood, AreGood, ArePoliciesGood, ArePrefixesGood, depth, depth_of_all, depth_of_policies, depth_of_prefixes, count, count_of_all, count_of_policies, count_of_prefixes}
 use Rattle.route_tree.specs.Form.{routes_of, policies_of, prefixes_of}
 use Rattle.route_json.specs.declared.names.kinds.Lists.{Lists}
 use Rattle.route_json.specs.declared.names.kinds.Lists.TheVariants.{AllSync, Failover, MissFailover}
@@ -52,7 +52,7 @@ module _ {X A : Type 0} (read : X → Reading ℕ A) (all : Result (List A × �
     counted = le;
   }
 
-not_empty : (xs : List Route) → 0 < length xs → IsNotEmpty (routes_of xs)
+not_empty : (xs : List Route) → 0 < length xs → HasChild (routes_of xs)
 not_empty [] h = absurd (omega arith)
 not_empty (x ∷ xs) h = tt
 

@@ -50,10 +50,10 @@ with_weight a None = None
 with_weight a (Some w) = if is_server_name a then Some (a, w) else None
 
 -- the name and the weight of the parts of a text `H:P:W`, if they are such; every other text is a name of weight 1
-abbrev pub server_or : List ℕ → Option (List ℕ × List ℕ) → Option (List ℕ × ℕ)
-server_or text None = with_weight text (Some 1)
-server_or text (Some p) = with_weight p.0 (weight_of p.1)
+abbrev pub weighted_or : List ℕ → Option (List ℕ × List ℕ) → Option (List ℕ × ℕ)
+weighted_or text None = with_weight text (Some 1)
+weighted_or text (Some p) = with_weight p.0 (weight_of p.1)
 
 -- the name and the weight that a server's text says
 abbrev pub server_in : List ℕ → Option (List ℕ × ℕ)
-server_in text = server_or text (weighted_parts text)
+server_in text = weighted_or text (weighted_parts text)

@@ -2,7 +2,7 @@
 use Rattle.std.proofs.Common.{◌≡◌, ℕ, ◌+◌, ◌<◌, ◌≤◌, max, Bool, true, false, cond, ◌&&◌, List, Option, Some, None, refl, ap, ◌∙◌, arith}
 use Rattle.route_tree.specs.Plan as plan
 use Rattle.route_tree.specs.Plan.{Plan}
-use Rattle.route_tree.specs.Route.{Route, Routes, Policies, Prefixes, Pool, Server, Null, Failing, AllSync, Failover, MissFailover, WarmUp, ByOperation, ByPrefix, End, More, Otherwise, Policy, Wildcard, Prefix, IsNotEmpty, IsGood, AreGood, ArePoliciesGood, ArePrefixesGood, IsTree, depth, depth_of_all, depth_of_policies, depth_of_prefixes, count, count_of_all, count_of_policies, count_of_prefixes}
+use Rattle.route_tree.specs.Route.{Route, Routes, Policies, Prefixes, Pool, Server, Null, Failing, AllSync, Failover, MissFailover, WarmUp, ByOperation, ByPrefix, End, More, Otherwise, Policy, Wildcard, Prefix, HasChild, IsGood, AreGood, ArePoliciesGood, ArePrefixesGood, IsTree, depth, depth_of_all, depth_of_policies, depth_of_prefixes, count, count_of_all, count_of_policies, count_of_prefixes}
 use Rattle.route_tree.specs.At.{begins, is_longer, plain_for, plain_for_all, plain_for_policies, plain_for_prefixes}
 use Rattle.route_tree.specs.RouteCode.{route_size, prefixes_route_size}
 use Rattle.route_tree.specs.Chosen.{chosen}
@@ -16,7 +16,7 @@ module _ (hash : ℕ) (text : List ℕ) where
   best_good true x best g h = g
   best_good false x best g h = h
 
-  some_left : (rs : Routes) → IsNotEmpty rs → plan.IsNotEmpty (plain_for_all hash text rs)
+  some_left : (rs : Routes) → HasChild rs → plan.IsNotEmpty (plain_for_all hash text rs)
   some_left End h = h
   some_left (More r rs) h = tt
 

@@ -16,19 +16,19 @@ plans_most : (ps : List Plan) → most (λ p. plan_size p + 1) ps ≤ all_plan_s
 plans_most [] = omega arith
 plans_most (p ∷ ps) = omega (arith, plans_most ps)
 
-policies_most : (ps : List (Op × Plan)) (d : Plan) → max (most (weighed-PlainForm-ByOperation-0-at-2.weight Plan (λ y. plan_size y + 1)) ps) (plan_size d + 1) ≤ policies_plan_size (plan_policies_of ps d)
-policies_most [] d = omega arith
-policies_most (p ∷ ps) d = omega (arith, policies_most ps d)
+plan_policies_most : (ps : List (Op × Plan)) (d : Plan) → max (most (weighed-PlainForm-ByOperation-0-at-2.weight Plan (λ y. plan_size y + 1)) ps) (plan_size d + 1) ≤ policies_plan_size (plan_policies_of ps d)
+plan_policies_most [] d = omega arith
+plan_policies_most (p ∷ ps) d = omega (arith, plan_policies_most ps d)
 
-falls : (f : PlainForm) → max (deep-PlainForm f) 0 ≤ plan_size (plan_of_form f)
-falls (Server s) = omega arith
-falls Null = omega arith
-falls Error = omega arith
-falls (AllSync ps) = omega (arith, plans_most ps.items)
-falls (Failover ps) = omega (arith, plans_most ps.items)
-falls (MissFailover ps) = omega (arith, plans_most ps.items)
-falls (WarmUp c w e) = omega arith
-falls (ByOperation ps d) = omega (arith, policies_most ps.items d.value)
+plan_form_falls : (f : PlainForm) → max (deep-PlainForm f) 0 ≤ plan_size (plan_of_form f)
+plan_form_falls (Server s) = omega arith
+plan_form_falls Null = omega arith
+plan_form_falls Error = omega arith
+plan_form_falls (AllSync ps) = omega (arith, plans_most ps.items)
+plan_form_falls (Failover ps) = omega (arith, plans_most ps.items)
+plan_form_falls (MissFailover ps) = omega (arith, plans_most ps.items)
+plan_form_falls (WarmUp c w e) = omega arith
+plan_form_falls (ByOperation ps d) = omega (arith, plan_policies_most ps.items d.value)
 
 pub plan_falls : (a : Inside) → IsPlan (plan_of_form a.form) → max (deep-PlainForm a.form) 0 ≤ plan_size (plan_of_form a.form)
-plan_falls a h = falls a.form
+plan_falls a h = plan_form_falls a.form

@@ -34,9 +34,9 @@ mutual
     Prefix : (text : List ℕ) → Route → Prefixes → Prefixes
 
 -- there is a child
-abbrev pub IsNotEmpty : Routes → Type 0
-IsNotEmpty End = ⊥
-IsNotEmpty (More r rs) = Unit {0}
+abbrev pub HasChild : Routes → Type 0
+HasChild End = ⊥
+HasChild (More r rs) = Unit {0}
 
 abbrev mutual
   -- no list of children and no pool is empty, no pool has more than 2,048 slots, and each prefix is a key
@@ -45,9 +45,9 @@ abbrev mutual
   IsGood (Server s) = Unit {0}
   IsGood Null = Unit {0}
   IsGood Failing = Unit {0}
-  IsGood (AllSync rs) = IsNotEmpty rs × AreGood rs
-  IsGood (Failover rs) = IsNotEmpty rs × AreGood rs
-  IsGood (MissFailover rs) = IsNotEmpty rs × AreGood rs
+  IsGood (AllSync rs) = HasChild rs × AreGood rs
+  IsGood (Failover rs) = HasChild rs × AreGood rs
+  IsGood (MissFailover rs) = HasChild rs × AreGood rs
   IsGood (WarmUp cold warm e) = IsGood cold × IsGood warm
   IsGood (ByOperation ps) = ArePoliciesGood ps
   IsGood (ByPrefix ps) = ArePrefixesGood ps

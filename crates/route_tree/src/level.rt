@@ -2,7 +2,7 @@
 
 ghost use Rattle.std.specs.Prelude.{◌≡◌, ℕ, List, IfOk};
 ghost use Rattle.route_tree.specs.Plan.{IsPlan};
-ghost use Rattle.route_tree.specs.Route.{IsNotEmpty};
+ghost use Rattle.route_tree.specs.Route.{HasChild};
 ghost use Rattle.route_tree.specs.Route as route;
 ghost use Rattle.route_tree.specs.Form.{policies_of};
 ghost use Rattle.route_tree.specs.At.{plain_for, plain_for_policies};
@@ -96,7 +96,7 @@ fn level_of<'a>(tree: &'a Tree, hash: u32, text: &[u8]) -> Result<Level<'a>, All
 
 // The first child and the others.
 fn parts_of(tree: &Tree) -> Result<(Tree, Children), AllocError>
-    requires { IsNotEmpty (child_routes tree.now) }
+    requires { HasChild (child_routes tree.now) }
     ensures { IfOk result (λ parts. child_routes tree.now ≡ route.More parts.0 parts.1) }
 {
     match Children::of(tree.copy()?).parted()? {

@@ -7,9 +7,14 @@ use Rattle.std.proofs.lemmas.List.{append-nil, get_or_default, map-append, take_
 use Rattle.std.proofs.lemmas.List.Concat.{flat_map-cons}
 use Rattle.std.proofs.lemmas.List.Elements.{All-head, All-tail, All-push}
 use Rattle.script_events.specs.declared.script.Event.{Event}
-use Rattle.script_events.specs.Scripted.{scripted_of}
+use Rattle.script_events.specs.Scripted.{Scripted, scripted_of}
 use Rattle.script_events.specs.ScriptLines.{event_line, script_lines}
-use Rattle.script_events.specs.LineLaws.{AreBytes, HasWidths, HaveWidths}
+use Rattle.script_events.specs.LineLaws.{AreBytes, HasWidths}
+
+-- the numbers and bytes of each of these events have the widths of their types
+abbrev pub HaveWidths : List Scripted → Type 0
+HaveWidths [] = Unit {0}
+HaveWidths (event ∷ events) = HasWidths event × HaveWidths events
 
 pub are_bytes : (xs : List ℕ) → ((i : ℕ) → get_or xs i 0 < 256) → AreBytes xs
 are_bytes xs fits = λ i d lt. omega (arith, fits i, get_or_default xs i d 0 lt)

@@ -60,11 +60,6 @@ HasWidths (At turn loss) = (turn < 2 ^ 32) × LossHasWidths loss
 HasWidths (Now loss) = LossHasWidths loss
 HasWidths (Moment moment) = moment <ℤ pos (2 ^ 63)
 
--- the numbers and bytes of each of these events have the widths of their types
-abbrev pub HaveWidths : List Scripted → Type 0
-HaveWidths [] = Unit {0}
-HaveWidths (event ∷ events) = HasWidths event × HaveWidths events
-
 -- a text that was read says this configuration and these events, each of its lines can be read, and none loads anything
 pub record SaysAll (t : Told) (config : Configuration) (events : List Scripted) : Type 0 where
   pub configuration : t.configuration ≡ config

@@ -29,14 +29,14 @@ use Rattle.script_events.specs.declared.servers.servers.ScriptServers.{ScriptSer
 use Rattle.script_run.specs.Laws.{StandingSays}
 use Rattle.script_run.specs.Results.{CallResult, ResultsAreTold}
 use Rattle.script_run.specs.Standing.{Kept, story_of, LogGoesOn, GoesOnFed, tree_by}
-use Rattle.script_run.proofs.Told.{has_calls, has_calls_by, no_result, none_told}
+use Rattle.script_run.proofs.Told.{HasCalls, has_calls, has_calls_by, no_result, none_told}
 use Rattle.script_run.specs.Breaking.{AreSpent, IsWithinOne, BreaksOffAfter, StopsFed}
 use Rattle.script_run.specs.Running.{kept_of, AreOfOne, AreAskedYet, Stays, MovesFed, MovesByResults}
 use Rattle.script_run.specs.declared.driver.runner.Runner.{Runner}
 use Rattle.script_run.proofs.Breaking.{begun_spent}
 use Rattle.script_run.specs.Driving.{said_in, handed, AreThrough, HasNoResult, BringsSome, AreSteps, AreOutputs, IsStepPart, AreMarked, HaveMade, HasWorldOf, RunsBy, StepsPart, AreSpentIn, EndsStepped}
 use Rattle.script_run.specs.World.{EventChanges, lost_now, World}
-use Rattle.script_run.specs.Stepping.{HasCalls, HasStory, FedBy, AreFit, AreAskedBy, GoesOnInPart, FedInPart, Befalls, BreaksOff, HandsSome, AddsRising, HasCome, HasStood, Loads, LoadsInPart, LoadsSome, StopsPart}
+use Rattle.script_run.specs.Stepping.{HasStory, FedBy, AreFit, AreAskedBy, GoesOnInPart, FedInPart, Befalls, BreaksOff, HandsSome, AddsRising, HasCome, HasStood, Loads, LoadsInPart, LoadsSome, StopsPart}
 use Rattle.script_run.proofs.Direct.{fresh_if_direct}
 use Rattle.script_run.proofs.Come.{turn_on, come_on, come_ended, come_some, given_none, handed_none}
 use Rattle.script_run.proofs.Steps.{after_it, handed_on, nothing_fed, fed_more, fed_after, fed_results}

@@ -1,15 +1,25 @@
 -- The gate's answers to reloads, and that a run by the trees that it accepted is fresh.
-use Rattle.std.proofs.Common.{◌≡◌, ℕ, zero, suc, ◌+◌, ◌-◌, ◌<◌, ◌≤◌, Bool, List, [], ◌∷◌, ◌++◌, length, length-append, map, take, get_or, slice_get, Some, refl, sym, ap, ◌∙◌, arith}
+use Rattle.std.proofs.Common.{◌≡◌, ℕ, zero, suc, ◌+◌, ◌-◌, ◌<◌, ◌≤◌, Bool, true, false, List, [], ◌∷◌, ◌++◌, length, length-append, map, take, get_or, slice_get, Option, Some, None, refl, sym, ap, ◌∙◌, arith}
 use Rattle.std.proofs.lemmas.List.{map-append, take_more}
 use Rattle.route_tree.specs.Route.{Route}
 use Rattle.route_json.specs.Configuration.{Configuration}
 use Rattle.gate_check.specs.Sound.{IsLast}
 use Rattle.script_events.specs.declared.script.Reload.{Reload}
-use Rattle.script_events.specs.Reloads.{tree_after}
-use Rattle.script_events.specs.Reloads as reloads
+use Rattle.script_events.specs.Reloads.{is_refused}
 use Rattle.script_run.specs.declared.accepted.judging.Loading.{Loading}
 use Rattle.script_run.specs.declared.accepted.judging.Loading.TheVariants.{Loaded, Refused}
 use Rattle.script_run.specs.Reloads.{loading_is_refused}
+
+-- the tree in use after one more reload: where it is refused the one before
+abbrev pub tree_after_reload : Bool → Option Reload → Route → Route
+tree_after_reload true reload tree = tree
+tree_after_reload false None tree = tree
+tree_after_reload false (Some reload) tree = reload.config.tree
+
+-- the tree in use after so many reloads
+abbrev pub tree_after : Route → List Bool → List Reload → ℕ → Route
+tree_after first refused reloads zero = first
+tree_after first refused reloads (suc n) = tree_after_reload (is_refused (slice_get refused n)) (slice_get reloads n) (tree_after first refused reloads n)
 
 last_is : (configs : List Configuration) (c : Configuration) → slice_get (configs ++ c ∷ []) (length configs) ≡ Some c
 last_is [] c = refl
@@ -51,6 +61,6 @@ pub after_none : (t : Route) (k : ℕ) → tree_after t [] [] k ≡ t
 after_none t zero = refl
 after_none t (suc k) = after_none t k
 
-pub after_one : (t : Route) (x : Bool) (refused : List Bool) (r : Reload) (rs : List Reload) (k : ℕ) → tree_after t (x ∷ refused) (r ∷ rs) (suc k) ≡ tree_after (reloads.tree_after_reload x (Some r) t) refused rs k
+pub after_one : (t : Route) (x : Bool) (refused : List Bool) (r : Reload) (rs : List Reload) (k : ℕ) → tree_after t (x ∷ refused) (r ∷ rs) (suc k) ≡ tree_after (tree_after_reload x (Some r) t) refused rs k
 after_one t x refused r rs zero = refl
-after_one t x refused r rs (suc k) = ap (reloads.tree_after_reload (reloads.is_refused (slice_get refused k)) (slice_get rs k)) (after_one t x refused r rs k)
+after_one t x refused r rs (suc k) = ap (tree_after_reload (is_refused (slice_get refused k)) (slice_get rs k)) (after_one t x refused r rs k)

@@ -7,10 +7,10 @@ use Rattle.route_tree.specs.Route.{Route}
 use Rattle.core_proxy.specs.Claims.{bars_by}
 use Rattle.core_commands.specs.declared.sharing.Sharing.TheVariants.{Alone}
 use Rattle.script_events.specs.declared.script.Reload.{Reload}
-use Rattle.script_events.specs.Reloads.{tree_after_reload, tree_after}
-use Rattle.script_events.specs.Reloads as reloads
+use Rattle.script_events.specs.Reloads.{is_refused}
 use Rattle.script_run.specs.Standing.{tree_by}
 use Rattle.script_run.specs.Driving.{one_loaded, trees_loaded, loaded_trees}
+use Rattle.script_run.proofs.Loadings.{tree_after_reload, tree_after}
 
 -- ---- the tree of a command, by how many reloads had come when it began
 
@@ -64,11 +64,11 @@ module _ (first : Route) (refused : List Bool) (rs : List Reload) where
   pub have_come : (many : ℕ) (loads : List (ℕ × Route)) → loaded_trees loads ≡ trees_loaded refused rs many → HaveCome first refused rs loads many
   have_come zero [] e = record { at = λ n. zero; within = λ n. omega arith; tree = λ n. refl; rising = λ n m lt. omega arith }
   have_come zero (load ∷ loads) e = absurd (none_some load.1 (loaded_trees loads) e)
-  have_come (suc many) loads e = by (λ ls is. have_come many ls is) (reloads.is_refused (slice_get refused many)) refl (slice_get rs many) refl loads e
+  have_come (suc many) loads e = by (λ ls is. have_come many ls is) (is_refused (slice_get refused many)) refl (slice_get rs many) refl loads e
     where
       by :
           ((ls : List (ℕ × Route)) → loaded_trees ls ≡ trees_loaded refused rs many → HaveCome first refused rs ls many)
-          → (b : Bool) → reloads.is_refused (slice_get refused many) ≡ b → (o : Option Reload) → slice_get rs many ≡ o → (ls : List (ℕ × Route))
+          → (b : Bool) → is_refused (slice_get refused many) ≡ b → (o : Option Reload) → slice_get rs many ≡ o → (ls : List (ℕ × Route))
           → loaded_trees ls ≡ one_loaded b o (trees_loaded refused rs many) → HaveCome first refused rs ls (suc many)
       by before true eb o eo ls is = come_more ls many (before ls is)
       by before false eb None eo ls is = come_more ls many (before ls is)

@@ -17,8 +17,12 @@ use Rattle.script_events.specs.Servers.{turn_of, lost_of}
 use Rattle.script_events.specs.declared.servers.servers.ScriptServers.{ScriptServers}
 use Rattle.script_run.specs.Standing.{story_of, HasSameStory}
 use Rattle.script_run.specs.Results.{CallResult, NumberedCall, ResultsAreTold, ResultIsTold, call_of_result, calls_of}
-use Rattle.script_run.specs.Stepping.{HasCalls, HasStory, HasStoryBy}
+use Rattle.script_run.specs.Stepping.{HasStory, HasStoryBy}
 use Rattle.script_run.specs.World.{lost_now}
+
+-- the calls of the run are those of these results, and then those of before
+abbrev pub HasCalls : List CallResult → List (Entry dialect) → List (Entry dialect) → Type 0
+HasCalls results more log = calls_of (run_of (more ++ log)) ≡ map call_of_result results ++ calls_of (run_of log)
 
 -- ---- losses
 

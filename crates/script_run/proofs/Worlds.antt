@@ -17,7 +17,8 @@ use Rattle.script_run.specs.declared.driver.runner.Runner.{Runner}
 use Rattle.script_run.specs.Driving.{HasNoResult, FirstHasResult, BringsResults, BringsSome}
 use Rattle.script_run.specs.World.{Deed, Takes, Ends, Gives, EventChanges, lost_now, LeadTo, AreMany, ResultIsAwaited, DeedsAreInTurn, World, script_of_deeds}
 use Rattle.script_run.proofs.DriverRunning.{in_turn_on}
-use Rattle.script_run.specs.Stepping.{HasCalls, HasStory, HasStoryBy, AreFit, AreAskedBy, TakesTurns}
+use Rattle.script_run.specs.Stepping.{HasStory, HasStoryBy, AreFit, AreAskedBy, TakesTurns}
+use Rattle.script_run.proofs.Told.{HasCalls}
 
 -- results after deeds, the latest first
 abbrev then_given : List CallResult → List Deed → List Deed

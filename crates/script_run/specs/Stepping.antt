@@ -1,5 +1,5 @@
 -- How far a script that steps its calls has come, and what each step makes of its log. Source: mcgate's own.
-use Rattle.std.specs.Prelude.{◌≡◌, ◌⊎◌, ℕ, ◌<◌, ◌≤◌, Bool, true, false, List, [], ◌∷◌, ◌++◌, length, map, drop, Option, None, IfSome, slice_get}
+use Rattle.std.specs.Prelude.{◌≡◌, ◌⊎◌, ℕ, ◌<◌, ◌≤◌, Bool, true, false, List, [], ◌∷◌, ◌++◌, length, drop, Option, None, IfSome, slice_get}
 use Rattle.mc_types.specs.Items.{Item}
 use Rattle.fresh_runs.specs.Log.{Shown}
 use Rattle.fresh_runs.specs.ScriptLog.{event_bytes}
@@ -13,7 +13,7 @@ use Rattle.script_events.specs.declared.script.Reload.{Reload}
 use Rattle.script_events.specs.Scripted.{Scripted, Piece, Add, Result, Fail, Hold, At, Now, Moment}
 use Rattle.script_events.specs.Opening.{opening_of}
 use Rattle.script_events.specs.declared.servers.servers.ScriptServers.{ScriptServers}
-use Rattle.script_run.specs.Results.{CallResult, AreGiven, ResultsAreTold, call_of_result, calls_of}
+use Rattle.script_run.specs.Results.{CallResult, AreGiven, ResultsAreTold}
 use Rattle.script_run.specs.Standing.{Kept, story_of, HasSameStory, LogStands, GoesOnFed, LeavesAsMuch, tree_by}
 use Rattle.script_events.specs.declared.servers.event.FleetFault.{FleetFault}
 use Rattle.script_events.specs.declared.servers.event.FleetFault.TheVariants.{Spent}
@@ -43,10 +43,6 @@ pub record GoesOnSaid (opening : ℕ → List ℕ → Option Item) (tree : ℕ �
   pub streams : (c : ℕ) → stream_of (more ++ log) c ≡ stream_of log c ++ event_bytes event c
   pub given : (c : ℕ) → given_of (more ++ log) c ≡ given_of log c
   pub left : LeavesBy event log (more ++ log)
-
--- the calls of the run are those of these results, and then those of before
-abbrev pub HasCalls : List CallResult → List (Entry dialect) → List (Entry dialect) → Type 0
-HasCalls results more log = calls_of (run_of (more ++ log)) ≡ map call_of_result results ++ calls_of (run_of log)
 
 -- what befell the servers are these results
 abbrev pub HasStory : List CallResult → ScriptServers → ScriptServers → List (Entry dialect) → List (Entry dialect) → Type 0

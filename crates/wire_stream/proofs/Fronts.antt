@@ -7,7 +7,7 @@ use Rattle.wire_parts.specs.declared.refusal.RefusalReason.{RefusalReason}
 use Rattle.wire_parts.specs.declared.skip.Skip.{Skip}
 use Rattle.wire_parts.specs.declared.skip.Skip.TheVariants.{Nothing, Bytes, ThroughNewline}
 use Rattle.wire_parts.specs.Message.{Refusal}
-use Rattle.wire_parts.specs.Stream.{Place, Stands, Closed}
+use Rattle.wire_parts.specs.Stream.{Place, Stands, Closed, after_own}
 use Rattle.wire_parts.proofs.Streams.{used_within}
 use Rattle.wire_classic.specs.Places as texts
 use Rattle.wire_classic.specs.Order.{Retrieval, Storage, Swapping, Deletion, Touching, Counting, OfItself}
@@ -17,15 +17,19 @@ use Rattle.wire_stream.specs.declared.requests.reader.Read.{Read}
 use Rattle.wire_stream.specs.declared.requests.reader.Read.TheVariants as reads
 use Rattle.wire_stream.specs.declared.requests.request.Request.{Request}
 use Rattle.wire_stream.specs.declared.requests.request.Request.TheVariants as requests
-use Rattle.wire_stream.specs.Both.{AnyOrder, Classic, Meta, both_grammar}
+use Rattle.wire_stream.specs.Both.{AnyOrder, Classic, Meta, both_grammar, own_by}
 use Rattle.wire_stream.specs.OtherProtocol.{IsText}
 use Rattle.wire_stream.specs.Message.{AnyMessage, Reads, IsReadFrom, message_in, used_of}
 use Rattle.wire_stream.specs.Asks.{asks_by}
-use Rattle.wire_stream.specs.Stream.{after_order, after_any}
+use Rattle.wire_stream.specs.Stream.{after_any}
 use Rattle.wire_stream.specs.Held.{bytes_at, IsReadAt}
 use Rattle.wire_stream.specs.TextProtocol.{Whole, LongLine, OtherProtocol, ReadsNext, memcached_text}
 use Rattle.wire_stream.specs.Fronts.{RequestIsFront}
 use Rattle.wire_stream.proofs.OtherProtocols.{served_text}
+
+-- where a reader stands after a request
+abbrev after_order : AnyOrder → List ℕ → Place
+after_order order rest = after_own (own_by order) rest
 
 -- a request with an ask is no `quit`: after it the stream goes on
 pub served_after : (order : AnyOrder) (block rest : List ℕ) (i : ℕ) (ask : Ask) → slice_get (asks_by order block) i ≡ Some ask → after_order order rest ≡ Stands Nothing rest

@@ -1,6 +1,6 @@
 use Rattle.std.proofs.Common.{◌≡◌, ◌*◌, Some, None, sym, ap₂, ◌∙◌, length, subst, refl}
-use Rattle.gate_check.specs.Shapes.{first_misshaped, IfMisshaped}
-use Rattle.gate_check.proofs.Shaping.{misshaped_is}
+use Rattle.gate_check.specs.Shapes.{first_misshaped}
+use Rattle.gate_check.proofs.Shaping.{IfMisshaped, misshaped_is}
 use Rattle.gate_check.proofs.Reasons.{misshaped_row}
 use Rattle.gate_check.proofs.Answering.{looked}
 use Rattle.gate_check.proofs.gate.verdict_by.Goals as goal

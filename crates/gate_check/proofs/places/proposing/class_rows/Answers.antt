@@ -5,9 +5,9 @@ use Rattle.gate_coverage.specs.Pools.{taken_pools}
 use Rattle.route_tree.specs.At.{plain_for}
 use Rattle.route_tree.specs.Place.{prefix_text}
 use Rattle.gate_check.specs.TableRows.{IsRowOf}
-use Rattle.gate_check.specs.Proposed.{AreRowsBelow, IsValidIfCovered}
+use Rattle.gate_check.specs.Proposed.{IsValidIfCovered}
 use Rattle.gate_check.proofs.Proposals.{valid_if_covered}
-use Rattle.gate_check.proofs.RunLists.{rows_with, proposed_is}
+use Rattle.gate_check.proofs.RunLists.{AreRowsBelow, rows_with, proposed_is}
 use Rattle.gate_check.proofs.places.proposing.class_rows.Goals as goal
 
 pub loop-residue-preserved : goal.loop-residue-preserved

@@ -1,4 +1,4 @@
-use Rattle.gate_check.specs.Proposed.{AreRowsBelow}
+use Rattle.gate_check.proofs.RunLists.{AreRowsBelow}
 use Rattle.gate_check.proofs.places.proposing.class_rows.Given as goal
 
 abbrev pub invariant-loop-residue : goal.invariant-loop-residue

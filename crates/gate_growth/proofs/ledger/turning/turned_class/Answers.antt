@@ -2,9 +2,8 @@ use Rattle.std.proofs.Common.{◌++◌, ◌∷◌, ◌+◌, [], ℕ, List, lengt
 use Rattle.std.proofs.lemmas.List.{length_push}
 use Rattle.gate_growth.specs.declared.ledger.page.Page.{Page}
 use Rattle.gate_growth.specs.Classes.{IsBestAt}
-use Rattle.gate_growth.specs.Turning.{TurnsBelow}
 use Rattle.gate_growth.proofs.Coarse.{read_is}
-use Rattle.gate_growth.proofs.Turnings.{turn_more, turn_class}
+use Rattle.gate_growth.proofs.Turnings.{TurnsBelow, turn_more, turn_class}
 use Rattle.gate_growth.proofs.ledger.turning.turned_class.Goals as goal
 
 pub loop-residue-preserved : goal.loop-residue-preserved

@@ -1,5 +1,5 @@
 use Rattle.std.proofs.Common.{◌≡◌, length}
-use Rattle.gate_growth.specs.Turning.{TurnsBelow}
+use Rattle.gate_growth.proofs.Turnings.{TurnsBelow}
 use Rattle.gate_growth.proofs.ledger.turning.turned_class.Given as goal
 
 abbrev pub invariant-loop-residue : goal.invariant-loop-residue
