@@ -9,7 +9,7 @@ ghost use Rattle.cache_tcp.specs.Steps.{RunsOn, StopsForMemory, IsAnsweredSoFar,
 ghost use Rattle.cache_tcp.specs.Serving.{FeedsStream, ServesHeld, StopsIn, IsServed, Waits};
 ghost use Rattle.cache_tcp.specs.Flushing.{flush_line, PassesIf, TakesIf};
 
-use crate::clock::Moment;
+use crate::clock::UnixTime;
 use crate::connection::uses::Uses;
 use crate::connection::{Cache, Served};
 use memchr::memchr;
@@ -76,7 +76,7 @@ fn begins_flush(bytes: &[u8]) -> bool
 fn serve_at(
     served: &mut Served,
     cache: &mut Cache,
-    moment: Moment,
+    moment: UnixTime,
     uses: &mut Uses,
     out: &mut SendBuffer,
     most: usize,
@@ -114,7 +114,7 @@ impl CacheClient {
     }
 
     // What is complete of the stream is served, up to a backlog.
-    fn serve_stream(&mut self, cache: &mut Cache, moment: Moment) -> Result<(), AllocError>
+    fn serve_stream(&mut self, cache: &mut Cache, moment: UnixTime) -> Result<(), AllocError>
         ensures ok { OnOk result (RunsOn moment.seconds self.old.served cache.old (bytes_of self.old.conn.unsent) self.new.served cache.new (bytes_of self.new.conn.unsent)) }
         ensures all { OnOk result (IsAnsweredSoFar self.old.conn.limits.unsent self.new.served.place (bytes_of self.new.conn.unsent)) }
         ensures err { OnErr result (StopsForMemory moment.seconds self.old.served cache.old cache.new) }
@@ -165,7 +165,7 @@ impl CacheClient {
     /// The only error is running out of memory, which may break off a message; then the client is to be closed.
     ///
     /// Source: mcgate's own.
-    pub fn serve(&mut self, cache: &mut Cache, moment: Moment) -> Result<(), AllocError>
+    pub fn serve(&mut self, cache: &mut Cache, moment: UnixTime) -> Result<(), AllocError>
         ensures ok { OnOk result (ServesHeld moment.seconds self.old.conn.held.items (bytes_of self.old.conn.unsent) self.old.served cache.old self.new.conn.held.items (bytes_of self.new.conn.unsent) self.new.served cache.new) }
         ensures all { OnOk result (IsServed self.old.conn.limits.unsent self.new.conn.held.items (bytes_of self.new.conn.unsent) self.new.served) }
         ensures err { OnErr result (StopsIn moment.seconds self.old.conn.held.items self.old.served cache.old cache.new) }
@@ -237,7 +237,7 @@ impl CacheClient {
     }
 
     // Where it leaves no backlog: one read, and what is whole is answered, up to a backlog. `false` where the client has to be dropped.
-    fn take_in<W: Wire>(&mut self, wire: &mut W, cache: &mut Cache, moment: Moment) -> bool
+    fn take_in<W: Wire>(&mut self, wire: &mut W, cache: &mut Cache, moment: UnixTime) -> bool
         ensures within { IsWithin self.old.conn.limits.unsent (bytes_of self.old.conn.unsent) → IsWithin self.old.conn.limits.unsent (bytes_of self.new.conn.unsent) }
         ensures waits { self.old.conn.limits.unsent ≤ length (bytes_of self.old.conn.unsent) → Waits self.old.conn.held.items self.old.served cache.old self.new.conn.held.items self.new.served cache.new }
         ensures limits { self.new.conn.limits ≡ self.old.conn.limits }
@@ -322,7 +322,7 @@ impl CacheClient {
     /// passes it.
     ///
     /// Source: mcgate's own.
-    pub fn turn<W: Wire>(&mut self, wire: &mut W, cache: &mut Cache, moment: Moment) -> AfterTurn
+    pub fn turn<W: Wire>(&mut self, wire: &mut W, cache: &mut Cache, moment: UnixTime) -> AfterTurn
         ensures within { IsWithin self.old.conn.limits.unsent (bytes_of self.old.conn.unsent) → IsWithin self.new.conn.limits.unsent (bytes_of self.new.conn.unsent) }
         ensures waits { self.old.conn.limits.unsent ≤ length (bytes_of self.old.conn.unsent) → Waits self.old.conn.held.items self.old.served cache.old self.new.conn.held.items self.new.served cache.new }
         ensures limits { self.new.conn.limits ≡ self.old.conn.limits }

@@ -8,7 +8,7 @@ use std::time::{Duration, Instant, SystemTime, UNIX_EPOCH};
 
 /// A moment in seconds since 1970, 0 or later.
 #[derive(Clone, Copy)]
-pub struct Moment {
+pub struct UnixTime {
     pub seconds: i64,
     ghost begun: { pos 0 ≤ℤ seconds },
 }
@@ -21,9 +21,9 @@ pub struct SetClock {
 }
 
 // A moment past the last one that can be told is that one.
-fn moment_of(seconds: u64) -> Moment {
+fn moment_of(seconds: u64) -> UnixTime {
     let seconds = i64::try_from(seconds).unwrap_or(i64::MAX);
-    Moment { seconds }
+    UnixTime { seconds }
 }
 
 impl SetClock {
@@ -38,7 +38,7 @@ impl SetClock {
     }
 
     /// The moment. The errors are the system's.
-    pub fn now<R: Clock>(&self, rt: &R) -> io::Result<Moment> {
+    pub fn now<R: Clock>(&self, rt: &R) -> io::Result<UnixTime> {
         let passed = self.set_at.elapsed(rt)?;
         Ok(moment_of(self.set_to.saturating_add(passed.as_secs())))
     }

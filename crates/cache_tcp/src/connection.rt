@@ -1,7 +1,6 @@
 //! One connection of a memcached cache server: what a client sends, in any pieces, is answered by a cache.
 
 pub mod laws;
-mod moment;
 mod reply;
 mod serve;
 pub mod served;

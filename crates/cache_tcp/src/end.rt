@@ -4,7 +4,7 @@ ghost use Rattle.std.specs.Prelude.{◌≡◌, None};
 ghost use Rattle.serve_wire.specs.Events.{role};
 
 use crate::client::{AfterTurn, CacheClient};
-use crate::clock::{Moment, SetClock};
+use crate::clock::{SetClock, UnixTime};
 use crate::connection::Cache;
 use crate::room::Room;
 use crate::settings::{Settings, client_limits};
@@ -72,7 +72,7 @@ fn look_at_uses(
     room: &mut Room,
     cache: &mut Cache,
     client: &mut CacheClient,
-    moment: Moment,
+    moment: UnixTime,
 ) -> Result<(), AllocError> {
     let Some(keys) = client.uses.take() else {
         return Err(AllocError);
@@ -97,7 +97,7 @@ fn count(
     cache: &mut Cache,
     client: &mut CacheClient,
     before: usize,
-    moment: Moment,
+    moment: UnixTime,
 ) {
     room.change_unsent(before, client.conn.unsent.len());
     if look_at_uses(room, cache, client, moment).is_err() {
@@ -318,7 +318,7 @@ impl<W: Wire> CacheEnd<W> {
     }
 
     // The client's turn.
-    fn turn_client(&mut self, id: usize, moment: Moment) -> AfterTurn {
+    fn turn_client(&mut self, id: usize, moment: UnixTime) -> AfterTurn {
         let Some(client) = self.clients.get_mut(id) else {
             return AfterTurn::Waits;
         };
@@ -338,7 +338,7 @@ impl<W: Wire> CacheEnd<W> {
         after
     }
 
-    fn serve_client(&mut self, id: usize, moment: Moment) {
+    fn serve_client(&mut self, id: usize, moment: UnixTime) {
         match self.turn_client(id, moment) {
             AfterTurn::More => self.list(id),
             AfterTurn::Waits => {}
@@ -347,7 +347,7 @@ impl<W: Wire> CacheEnd<W> {
         self.shed();
     }
 
-    fn serve_ready(&mut self, moment: Moment) {
+    fn serve_ready(&mut self, moment: UnixTime) {
         mem::swap(&mut self.ready, &mut self.serving);
         for at in 0..self.serving.len() {
             if let Some(id) = self.serving.get(at).copied() {

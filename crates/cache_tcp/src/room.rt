@@ -4,7 +4,7 @@ ghost use Rattle.std.specs.Prelude.{◌≡◌, ◌+◌, ◌≤◌, ◌⊎◌, fa
 ghost use Rattle.mc_types.specs.Asks.{IsAsk};
 ghost use Rattle.cache_tcp.specs.Oldest.{LosesOldest};
 
-use crate::clock::Moment;
+use crate::clock::UnixTime;
 use crate::connection::Cache;
 use lru::LruCache;
 use mc_types::{Answer, Ask, Dialect, Key, Op, Tokens};
@@ -43,7 +43,7 @@ fn get_of(alloc: Global, key: &Key) -> Ask
     Ask::bare(Dialect::Classic, Op::Get, *key, Tokens::new(alloc))
 }
 
-fn asked(cache: &mut Cache, moment: Moment, ask: &Ask) -> Result<Option<usize>, AllocError>
+fn asked(cache: &mut Cache, moment: UnixTime, ask: &Ask) -> Result<Option<usize>, AllocError>
     requires { IsAsk ask.now }
 {
     let (answer, _found) = cache.apply(moment.seconds, 0, ask)?;
@@ -109,7 +109,7 @@ impl Room {
     pub fn look_at(
         &mut self,
         cache: &mut Cache,
-        moment: Moment,
+        moment: UnixTime,
         key: &Key,
     ) -> Result<(), AllocError> {
         let ask = get_of(self.alloc, key);

@@ -8,7 +8,7 @@ use fault_words::script::BadLine;
 use mcgate_args::arguments::{ArgumentsFault, Job, Task, read_arguments};
 use mcgate_args::bad_lines::{bad_line_of_events, bad_line_of_task};
 use mcgate_args::details::Details;
-use mcgate_args::ends::{End, Stop, end_of, read_configuration, run_events, run_input};
+use mcgate_args::ends::{ProgramEnd, Stop, end_of, read_configuration, run_events, run_input};
 use mcgate_args::input::{text_noting, text_of};
 use mcgate_args::input_text::InputFault;
 use mcgate_args::serve_arguments::{ServeJob, all_places};
@@ -692,7 +692,7 @@ fn told_of_path(alloc: Global, kind: ErrorKind, path: &str) -> Result<String, Al
 }
 
 // The status, what is said on standard error, and what was printed.
-fn end_words(alloc: Global, end: End, out: &[u8]) -> Result<String, AllocError> {
+fn end_words(alloc: Global, end: ProgramEnd, out: &[u8]) -> Result<String, AllocError> {
     let printed = str::from_utf8(out).unwrap_or("?");
     let complaint = end.complaint.unwrap_or("-");
     let mut words = format!(in alloc; "{} {complaint}\n", end.status)?;

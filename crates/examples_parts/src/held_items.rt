@@ -3,7 +3,7 @@
 
 use crate::agree::agrees;
 use crate::holding::{HeldItem, held};
-use crate::marks::Mark;
+use crate::marks::ServerMark;
 use crate::reading::{ask, drop_answer, drop_ask, halves, key, number, same, wire};
 use mc_types::{Answer, Ask, Body, Key};
 use std::alloc::{AllocError, Global};
@@ -83,7 +83,7 @@ now b => (x) 7 #0"#
 #[derive(Drop)]
 struct Life {
     opening: Option<HeldItem>,
-    marks: Vec<Mark>,
+    marks: Vec<ServerMark>,
 }
 
 fn opening_of(alloc: Global, text: &str) -> Result<Option<HeldItem>, AllocError> {
@@ -153,7 +153,7 @@ fn agreement(alloc: Global, life: &Life, request: &str, text: &str) -> Result<&'
     says
 }
 
-fn add(life: &mut Life, mark: Mark) -> Result<(), AllocError> {
+fn add(life: &mut Life, mark: ServerMark) -> Result<(), AllocError> {
     match life.marks.insert(0, mark) {
         Ok(()) => Ok(()),
         Err(_) => Err(AllocError),
@@ -176,10 +176,10 @@ fn applied(
     request: &str,
     text: &str,
     spaces: u32,
-) -> Result<Mark, Fail> {
+) -> Result<ServerMark, Fail> {
     let ask = ask(alloc, request)?;
     match answer(alloc, &ask, text) {
-        Ok(answer) => Ok(Mark::Applied {
+        Ok(answer) => Ok(ServerMark::Applied {
             ask,
             stamp: u64::from(stamp),
             answer,
@@ -203,14 +203,14 @@ fn call(alloc: Global, life: &mut Life, name: &str, stamp: &str, line: &str) -> 
 
 fn lost(life: &mut Life, name: &str) -> Result<(), Fail> {
     let key = key(name)?;
-    Ok(add(life, Mark::Lost(key))?)
+    Ok(add(life, ServerMark::Lost(key))?)
 }
 
 fn step(alloc: Global, life: &mut Life, name: &str, line: &str) -> Result<(), Fail> {
     let (first, rest) = halves(line, " ");
     let (left, right) = halves(rest, " => ");
     match first {
-        "restarted" => Ok(add(life, Mark::Restarted)?),
+        "restarted" => Ok(add(life, ServerMark::Restarted)?),
         "lost" => lost(life, rest),
         "now" => same(name, line, now(alloc, life, left)?.as_str(), right),
         "agrees" | "differs" => same(name, line, agreement(alloc, life, left, right)?, first),

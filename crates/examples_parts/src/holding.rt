@@ -6,7 +6,7 @@ ghost use Rattle.mc_types.specs.Agree.{AnswerAgrees};
 ghost use Rattle.fresh_runs.specs.Life.{held_in};
 ghost use Rattle.examples_parts.specs.Marks.{life_of_marks};
 
-use crate::marks::Mark;
+use crate::marks::ServerMark;
 use itoa::Buffer;
 use mc_types::{Answer, Ask, Body, Code, Key, Op};
 use std::alloc::{AllocError, Global};
@@ -172,7 +172,7 @@ fn after_call(
 pub fn held(
     alloc: Global,
     opening: &Option<HeldItem>,
-    marks: &[Mark],
+    marks: &[ServerMark],
     key: &Key,
 ) -> Result<Option<HeldItem>, AllocError>
     ensures { IfOk result (λ held. held ≡ held_in opening.now (life_of_marks marks.now) key.now) }
@@ -183,14 +183,14 @@ pub fn held(
             None => Ok(None),
         },
         [latest, earlier @ ..] => match latest {
-            Mark::Restarted => Ok(None),
-            Mark::Lost(lost) => {
+            ServerMark::Restarted => Ok(None),
+            ServerMark::Lost(lost) => {
                 if lost == key {
                     return Ok(None);
                 }
                 held(alloc, opening, earlier, key)
             }
-            Mark::Applied {
+            ServerMark::Applied {
                 ask,
                 stamp,
                 answer,

@@ -4,7 +4,7 @@ use mc_types::{Answer, Ask, Key};
 
 /// What happened to a server.
 #[derive(Drop)]
-pub enum Mark {
+pub enum ServerMark {
     /// A call that was applied, whether or not its answer was read.
     Applied {
         ask: Ask,

@@ -1,6 +1,6 @@
 //! The result of a call: a core with one client, whose get of `a` is command 1, its call out at server 0.
 
-use crate::stage::{Stage, play, play_lines};
+use crate::stage::{CoreStage, play, play_lines};
 use std::alloc::Global;
 use std::test::Fail;
 
@@ -45,7 +45,7 @@ close 0 => ok"
 }
 
 // With memory the command goes on; without, it is over, and nothing is done for its client any more.
-fn goes_on_or_breaks(stage: &mut Stage) -> Result<(), Fail> {
+fn goes_on_or_breaks(stage: &mut CoreStage) -> Result<(), Fail> {
     play_lines(stage, "a call is out", a_call_is_out())?;
     if stage.takes_failure(1)? {
         play_lines(stage, "with memory", with_memory())
@@ -60,6 +60,6 @@ fn a_call_whose_result_wants_memory(rt: HostRuntime) -> Result<(), Fail> {
 }
 
 fn on_a_stage(alloc: Global) -> Result<(), Fail> {
-    let mut stage = Stage::new(alloc, "warm-up of itself: of scripts")?;
+    let mut stage = CoreStage::new(alloc, "warm-up of itself: of scripts")?;
     goes_on_or_breaks(&mut stage)
 }

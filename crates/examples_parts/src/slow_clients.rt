@@ -3,7 +3,7 @@
 use crate::far_ends::{connect, may_take, then};
 use crate::reading::{halves, key, number, same, text_of, wire};
 use cache_tcp::client::{AfterTurn, CacheClient};
-use cache_tcp::clock::Moment;
+use cache_tcp::clock::UnixTime;
 use cache_tcp::connection::Cache;
 use mc_types::DATA_LIMIT;
 use serve_wire::conn::{Conn, Limits};
@@ -192,7 +192,7 @@ impl Server {
     fn turn(&mut self, client: &mut SlowClient) -> AfterTurn {
         client
             .end
-            .turn(&mut self.wire, &mut self.cache, Moment { seconds: 0 })
+            .turn(&mut self.wire, &mut self.cache, UnixTime { seconds: 0 })
     }
 
     fn run(&mut self, client: &mut SlowClient) -> AfterTurn {

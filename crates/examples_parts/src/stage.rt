@@ -25,7 +25,7 @@ enum Played {
 
 /// A core, the tickets that it gave out and that weren't handed back, and servers that answer its calls at once.
 #[derive(Drop)]
-pub struct Stage {
+pub struct CoreStage {
     alloc: Global,
     core: Played,
     tickets: Vec<Ticket>,
@@ -353,10 +353,10 @@ fn take(tickets: &mut Vec<Ticket>, number: u64) -> Option<Ticket> {
     None
 }
 
-impl Stage {
+impl CoreStage {
     /// A core as the text says, from which no ticket was given out.
-    pub fn new(alloc: Global, text: &str) -> Result<Stage, Fail> {
-        Ok(Stage {
+    pub fn new(alloc: Global, text: &str) -> Result<CoreStage, Fail> {
+        Ok(CoreStage {
             alloc,
             core: core(alloc, text)?,
             tickets: Vec::new(alloc),
@@ -529,7 +529,7 @@ fn shown(alloc: Global, bytes: Vec<u8>) -> Result<String, Fail> {
 }
 
 // An event gives what stands after its arrow; a remark is passed over.
-fn play_line(stage: &mut Stage, name: &str, line: &str) -> Result<(), Fail> {
+fn play_line(stage: &mut CoreStage, name: &str, line: &str) -> Result<(), Fail> {
     if line.starts_with("-- ") {
         return Ok(());
     }
@@ -542,7 +542,7 @@ fn play_line(stage: &mut Stage, name: &str, line: &str) -> Result<(), Fail> {
 }
 
 /// Plays these events.
-pub fn play_lines(stage: &mut Stage, name: &str, lines: &str) -> Result<(), Fail> {
+pub fn play_lines(stage: &mut CoreStage, name: &str, lines: &str) -> Result<(), Fail> {
     for line in lines.lines() {
         play_line(stage, name, line)?;
     }
@@ -551,7 +551,7 @@ pub fn play_lines(stage: &mut Stage, name: &str, lines: &str) -> Result<(), Fail
 
 fn play_example(alloc: Global, name: &str, lines: &str) -> Result<(), Fail> {
     let (first, rest) = lines.split_once('\n').ok_or("no events")?;
-    let mut stage = Stage::new(alloc, first)?;
+    let mut stage = CoreStage::new(alloc, first)?;
     play_lines(&mut stage, name, rest)
 }
 

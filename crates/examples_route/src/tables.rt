@@ -1,7 +1,7 @@
 //! Worked tables of slots: what becomes of them when a server is added or taken out, and of short lists.
 
 use examples_tables::tellers::{Teller, halves, wrong};
-use gate_plan::slots::{Change, rewritten, table_of};
+use gate_plan::slots::{ServerChange, rewritten, table_of};
 use mc_types::ServerId;
 use std::alloc::{AllocError, Global};
 use std::test::Fail;
@@ -91,7 +91,7 @@ fn word_of(alloc: Global, slots: &[ServerId]) -> Result<String, AllocError> {
 
 fn changed(
     alloc: Global,
-    change: Change,
+    change: ServerChange,
     others: &[ServerId],
     earlier: &str,
     slots: &[ServerId],
@@ -103,12 +103,12 @@ fn changed(
     }
 }
 
-fn change_of(text: &str) -> Change {
+fn change_of(text: &str) -> ServerChange {
     let (kind, letter) = halves(text, " ");
     let server = server_of(letter.chars().next().unwrap_or('?'));
     match kind {
-        "add" => Change::Add(server),
-        _ => Change::Remove(server),
+        "add" => ServerChange::Add(server),
+        _ => ServerChange::Remove(server),
     }
 }
 
@@ -120,7 +120,7 @@ impl Teller for OfChanges {
         let (rest, earlier) = halves(rest, " after ");
         let (word, over) = halves(rest, " over ");
         let change = change_of(change);
-        let (Change::Add(server) | Change::Remove(server)) = change;
+        let (ServerChange::Add(server) | ServerChange::Remove(server)) = change;
         let listed = if over.is_empty() { word } else { over };
         let others = others_of(alloc, listed, server)?;
         let slots = slots_of(alloc, word)?;

@@ -1,7 +1,7 @@
 //! What lines tell by keys, as words and in JSON.
 
 use examples_tables::tellers::{Teller, wrong};
-use mcgate_serve::events::{Event, Field, InJson, InWords, Subject};
+use mcgate_serve::events::{Field, InJson, InWords, LogEvent, Subject};
 use std::alloc::{AllocError, Global};
 use std::test::Fail;
 
@@ -30,7 +30,7 @@ fn texts() -> &'static str {
 a => process text=a | ,"subject":"process","line":"a""#
 }
 
-fn both(alloc: Global, event: Event<'_>, text: &str) -> Result<String, AllocError> {
+fn both(alloc: Global, event: LogEvent<'_>, text: &str) -> Result<String, AllocError> {
     let words = InWords { event, text };
     let more = InJson { event, text };
     format!(in alloc; "{words} | {more}")
@@ -41,7 +41,7 @@ struct OfServers;
 impl Teller for OfServers {
     fn told(alloc: Global, example: &str) -> Result<String, AllocError> {
         let fields = [Field::text("server", example), Field::count("in_a_row", 3)];
-        both(alloc, Event::warn(Subject::Server, &fields), example)
+        both(alloc, LogEvent::warn(Subject::Server, &fields), example)
     }
 }
 
@@ -50,7 +50,7 @@ struct OfVerdicts;
 impl Teller for OfVerdicts {
     fn told(alloc: Global, example: &str) -> Result<String, AllocError> {
         let fields = [Field::text("verdict", "v")];
-        let event = Event::info(Subject::Reload, &fields);
+        let event = LogEvent::info(Subject::Reload, &fields);
         both(alloc, event.with_words(example), example)
     }
 }
@@ -59,7 +59,7 @@ struct OfEvents;
 
 impl Teller for OfEvents {
     fn told(alloc: Global, example: &str) -> Result<String, AllocError> {
-        both(alloc, Event::info(Subject::Process, &[]), example)
+        both(alloc, LogEvent::info(Subject::Process, &[]), example)
     }
 }
 

@@ -9,6 +9,6 @@ pub mod rewriting;
 mod spreading;
 mod testing;
 
-pub use change::Change;
+pub use change::ServerChange;
 pub use rewriting::rewritten;
 pub use spreading::table_of;

@@ -3,7 +3,7 @@
 use libc::types::rlimit;
 use libc::{RLIMIT_NOFILE, getrlimit};
 use mcgate_args::serve_arguments::ServeJob;
-use mcgate_serve::events::{Event, Field, Subject};
+use mcgate_serve::events::{Field, LogEvent, Subject};
 use mcgate_serve::lines::Lines;
 use watch_admin::places::PLACES;
 
@@ -66,7 +66,7 @@ pub fn within_descriptors<'a, R: Eprint>(
             Field::count("servers", servers as u64),
             Field::count("rest", rest as u64),
         ];
-        lines.tell(rt, Event::warn(Subject::Process, &fields), line);
+        lines.tell(rt, LogEvent::warn(Subject::Process, &fields), line);
     }
     ServeJob { settings, ..job }
 }

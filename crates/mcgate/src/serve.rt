@@ -20,7 +20,7 @@ use mcgate_args::serve_arguments::ServeJob;
 use mcgate_check::checking::{print_fault, print_refused};
 use mcgate_check::status::DONE;
 use mcgate_serve::controlling::Controlling;
-use mcgate_serve::events::{Event, Field, Subject};
+use mcgate_serve::events::{Field, LogEvent, Subject};
 use mcgate_serve::folders::look_for_socket;
 use mcgate_serve::lines::Lines;
 use mcgate_serve::seen::Seen;
@@ -506,6 +506,6 @@ pub fn look_up_only<R: Files + Net + AllocGlobal + Eprint>(
         Field::text("at", job.listen),
         Field::count("servers", servers.len() as u64),
     ];
-    lines.tell(rt, Event::info(Subject::Process, &fields), line);
+    lines.tell(rt, LogEvent::info(Subject::Process, &fields), line);
     Ok(DONE)
 }

@@ -91,7 +91,7 @@ fn calls_line() -> &'static str
 
 /// The exit status, and the line that is printed on standard error, if there is one.
 #[derive(Clone, Copy)]
-pub struct End {
+pub struct ProgramEnd {
     pub status: u8,
     pub complaint: Option<&'static str>,
 }
@@ -99,31 +99,31 @@ pub struct End {
 /// How the program ends, by what its run answered.
 ///
 /// Source: mcgate's own.
-pub fn end_of(ended: Result<u8, Stop>) -> End
+pub fn end_of(ended: Result<u8, Stop>) -> ProgramEnd
     ensures { (result.status, option_map (λ s. s.now) result.complaint) ≡ exit_of ended }
 {
     match ended {
-        Ok(status) => End {
+        Ok(status) => ProgramEnd {
             status,
             complaint: None,
         },
-        Err(Stop::Usage) => End {
+        Err(Stop::Usage) => ProgramEnd {
             status: 2,
             complaint: Some("usage: mcgate check, replay, serve, cache or loopback"),
         },
-        Err(Stop::Key(fault)) => End {
+        Err(Stop::Key(fault)) => ProgramEnd {
             status: 1,
             complaint: Some(key_line(fault)),
         },
-        Err(Stop::Memory) => End {
+        Err(Stop::Memory) => ProgramEnd {
             status: 3,
             complaint: Some("memory: refused"),
         },
-        Err(Stop::Device) => End {
+        Err(Stop::Device) => ProgramEnd {
             status: 3,
             complaint: Some("device: failed"),
         },
-        Err(Stop::Calls) => End {
+        Err(Stop::Calls) => ProgramEnd {
             status: 3,
             complaint: Some(calls_line()),
         },

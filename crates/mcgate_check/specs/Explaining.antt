@@ -17,7 +17,7 @@ use Rattle.gate_gaps.specs.Pools.{NamedPools, named_pools_in}
 use Rattle.gate_gaps.specs.PoolWords.{server_text}
 use Rattle.gate_gaps.specs.Sites.{change_lines}
 use Rattle.mcgate_check.specs.Checking.{PrintsAccepted, ChecksFound, IsFoundFor}
-use Rattle.mcgate_check.specs.declared.explaining.Told.{Told}
+use Rattle.mcgate_check.specs.declared.explaining.ToldFault.{ToldFault}
 use Rattle.mcgate_check.specs.declared.explaining.Words.{Words}
 use Rattle.mcgate_check.specs.declared.explaining.Words.TheVariants as words
 
@@ -70,7 +70,7 @@ abbrev pub AreWordsFor : Configuration → Reason → Words → Type 0
 AreWordsFor config reason w = (pools : NamedPools) (found : Option Script) → IsInWords config pools found reason (words_text config.servers config.tree pools found w)
 
 -- what is told of a configuration that this text means, refused for this reason
-pub record ExplainsFault (text : List ℕ) (config : Configuration) (reason : Reason) (told : Told) : Type 0 where
+pub record ExplainsFault (text : List ℕ) (config : Configuration) (reason : Reason) (told : ToldFault) : Type 0 where
   pub pools : told.pools.items ≡ named_pools_in config.servers (read text)
   pub found : IsFoundFor config reason told.run
   pub words : AreWordsFor config reason told.words

@@ -36,7 +36,7 @@ pub enum Words {
 
 /// What is told of a refused configuration: why, the script that shows it, and the names of the pools.
 #[derive(Drop)]
-pub struct Told {
+pub struct ToldFault {
     pub pools: Vec<ConfigPool>,
     pub run: Option<Script>,
     pub words: Words,
@@ -181,7 +181,7 @@ fn told_of(
     config: &Config,
     table: Option<&PlaceTable>,
     reason: &Reason,
-) -> Result<Told, AllocError>
+) -> Result<ToldFault, AllocError>
     requires judged { IsJudged config.now.tree reason.now }
     requires table { IfSome table (λ table. IsTable (config.now.tree ∷ []) table.now) }
     ensures { IfOk result (ExplainsFault text.now config.now reason.now) }
@@ -189,7 +189,7 @@ fn told_of(
     let words = words_of(alloc, config, reason)?;
     let run = run_of(alloc, config, table, reason)?;
     let pools = read_pools(alloc, text, config.servers())?;
-    Ok(Told { pools, run, words })
+    Ok(ToldFault { pools, run, words })
 }
 
 // Writes why a configuration is refused, the script that shows it, and the words.
@@ -197,7 +197,7 @@ fn print_told<W: Write>(
     text: &str,
     config: &Config,
     reason: &Reason,
-    told: &Told,
+    told: &ToldFault,
     out: &mut W,
 ) -> Result<u8, RunFault>
     requires judged { IsJudged config.now.tree reason.now }

@@ -11,7 +11,7 @@ use Rattle.script_events.specs.declared.text.configured.ConfiguredScript.{Config
 use Rattle.script_events.specs.Scripted.{Scripted, scripted_of}
 use Rattle.script_events.specs.declared.script.Reload.{Reload}
 use Rattle.script_events.specs.Bad.{first_bad}
-use Rattle.mcgate_loopback.specs.declared.entries.Entry.{Entry}
+use Rattle.mcgate_loopback.specs.declared.entries.RunEntry.{RunEntry}
 use Rattle.mcgate_loopback.specs.Printed.{entry_lines}
 use Rattle.mcgate_check.specs.declared.status.RunFault.{RunFault}
 use Rattle.mcgate_check.specs.declared.status.RunFault.TheVariants.{NoMemory, Writer, TooManyCalls}
@@ -26,7 +26,7 @@ both_written (Some xs) (Some ys) None a b x y = y
 both_written (Some xs) (Some ys) (Some zs) a b x y = y ∙ ap (λ (t : List ℕ). t ++ b) x ∙ append_assoc xs a b
 
 -- a run that was broken off, whose lines so far were written
-pub broke_off : (old new : Option (List ℕ)) (reloads : List Reload) (shown : List Entry) (fault : RunFault) → IsNoOverrun fault → Appends old new (entry_lines reloads shown) → LoopbackBreaksOff old new fault
+pub broke_off : (old new : Option (List ℕ)) (reloads : List Reload) (shown : List RunEntry) (fault : RunFault) → IsNoOverrun fault → Appends old new (entry_lines reloads shown) → LoopbackBreaksOff old new fault
 broke_off old new reloads shown NoMemory within a = inr (record { reloads = reloads; shown = shown; printed = a })
 broke_off old new reloads shown Writer within a = tt
 broke_off old new reloads shown TooManyCalls within a = absurd within

@@ -16,21 +16,21 @@ use Rattle.mcgate_check.specs.Checking.{PrintsRefused, HasFaultyConfig}
 use Rattle.mcgate_check.specs.declared.status.RunFault.{RunFault}
 use Rattle.mcgate_check.specs.declared.status.RunFault.TheVariants.{NoMemory, Writer, TooManyCalls}
 use Rattle.mcgate_loopback.specs.declared.ends.Counts.{Counts}
-use Rattle.mcgate_loopback.specs.declared.entries.Entry.{Entry}
+use Rattle.mcgate_loopback.specs.declared.entries.RunEntry.{RunEntry}
 use Rattle.mcgate_loopback.specs.Printed.{entry_lines, done_line}
 
 -- ---- a script of which no line is bad
 
 -- lines of what clients got and of what became of these reloads were written, and the last one
 pub record WritesRun (reloads : List Reload) (old new : Option (List ℕ)) : Type 0 where
-  pub shown : List Entry
+  pub shown : List RunEntry
   pub counts : Counts
   pub printed : Appends old new (entry_lines reloads shown ++ done_line counts)
 
 -- such lines were written, of some reloads
 pub record WritesPart (old new : Option (List ℕ)) : Type 0 where
   pub reloads : List Reload
-  pub shown : List Entry
+  pub shown : List RunEntry
   pub printed : Appends old new (entry_lines reloads shown)
 
 -- memory was refused: before the run, and nothing was written; or during it. Nothing is said of a writer or a device that failed. It never is that there were too many calls

@@ -1,7 +1,7 @@
 //! All ends together, which are turned by turns until all is done that can be done without a further result of a call.
 
 use crate::clients::ClientEnd;
-use crate::entries::Entry;
+use crate::entries::RunEntry;
 use crate::servers::ServerEnds;
 use core_accepted::LoadFault;
 use core_proxy::Sharing;
@@ -36,7 +36,7 @@ pub struct Counts {
 
 /// The proxy's end, its clients and its servers.
 #[derive(Drop)]
-pub struct Ends {
+pub struct Loop {
     alloc: Global,
     proxy: ProxyEnd<Sockets>,
     // Where the proxy listens: the text by which the wire knows it.
@@ -142,17 +142,17 @@ fn add(count: u64, more: usize) -> u64 {
 }
 
 // New output of a client is shown, if there is any.
-fn push_output(place: usize, bytes: Vec<u8>, shown: &mut Vec<Entry>) -> Result<(), AllocError> {
+fn push_output(place: usize, bytes: Vec<u8>, shown: &mut Vec<RunEntry>) -> Result<(), AllocError> {
     match u8::try_from(place) {
         Ok(client) if !bytes.is_empty() => {
-            shown.push(Entry::Shown(Output { client, bytes }))?;
+            shown.push(RunEntry::Shown(Output { client, bytes }))?;
             Ok(())
         }
         _ => Ok(()),
     }
 }
 
-impl Ends {
+impl Loop {
     /// A proxy over an accepted configuration and so many servers, which hold nothing. Each listens at a port that the system picks. Those that a reload
     /// brings are emptied by `flush_all` before their first call, or none is. So many configurations are held at most.
     pub fn open<R: Net + Clock + AllocGlobal>(
@@ -161,7 +161,7 @@ impl Ends {
         servers: usize,
         flushes_new: bool,
         most: u32,
-    ) -> io::Result<Ends> {
+    ) -> io::Result<Loop> {
         let alloc = rt.alloc();
         let servers = ServerEnds::listen(rt, alloc, servers, any_port(), flushes_new)?;
         let addresses = servers.addresses()?;
@@ -182,7 +182,7 @@ impl Ends {
         let listens = proxy.wire().local_addr()?;
         let address = format!(in alloc; "{listens}")?;
         let wire = far_wire(rt, address.as_str())?;
-        Ends::of(alloc, proxy, address, wire, servers, most)
+        Loop::of(alloc, proxy, address, wire, servers, most)
     }
 
     fn of(
@@ -192,9 +192,9 @@ impl Ends {
         wire: Sockets,
         servers: ServerEnds,
         most: u32,
-    ) -> io::Result<Ends> {
+    ) -> io::Result<Loop> {
         let clients = no_clients(alloc)?;
-        Ok(Ends {
+        Ok(Loop {
             alloc,
             proxy,
             address,
@@ -221,7 +221,7 @@ impl Ends {
         &mut self,
         rt: &R,
         event: &Event,
-        shown: &mut Vec<Entry>,
+        shown: &mut Vec<RunEntry>,
     ) -> io::Result<()> {
         match event {
             Event::Piece(client, bytes) => self.serve(rt, *client as usize, bytes.as_slice())?,
@@ -237,7 +237,7 @@ impl Ends {
     }
 
     /// The script has ended: each call that is out has its result. What clients get by it goes after what is shown.
-    pub fn finish<R: Net + Clock>(&mut self, rt: &R, shown: &mut Vec<Entry>) -> io::Result<()> {
+    pub fn finish<R: Net + Clock>(&mut self, rt: &R, shown: &mut Vec<RunEntry>) -> io::Result<()> {
         self.settle_all(rt)?;
         Ok(self.give_all(shown)?)
     }
@@ -317,7 +317,7 @@ impl Ends {
     }
 
     // Each client is given what it got, in rising number.
-    fn give_all(&mut self, shown: &mut Vec<Entry>) -> Result<(), AllocError> {
+    fn give_all(&mut self, shown: &mut Vec<RunEntry>) -> Result<(), AllocError> {
         for place in 0..self.clients.len() {
             let bytes = self.take_output(place)?;
             push_output(place, bytes, shown)?;
@@ -451,14 +451,14 @@ impl Ends {
 
 // Loads the configuration of a reload, of this number. What came of that is shown.
 fn take_reload(
-    ends: &mut Ends,
+    ends: &mut Loop,
     number: usize,
     reload: &Reload,
-    shown: &mut Vec<Entry>,
+    shown: &mut Vec<RunEntry>,
 ) -> io::Result<()> {
     let entry = match ends.load(&reload.config)? {
-        Ok(generation) => Entry::Loaded(generation),
-        Err(fault) => Entry::Kept(number, fault),
+        Ok(generation) => RunEntry::Loaded(generation),
+        Err(fault) => RunEntry::Kept(number, fault),
     };
     shown.push(entry)?;
     Ok(())
@@ -489,10 +489,10 @@ fn speakers(event: &Event) -> usize {
 /// Takes up the events and the reloads of a script, each reload before the event of its place.
 pub fn drive<R: Net + Clock + AllocGlobal>(
     rt: &R,
-    ends: &mut Ends,
+    ends: &mut Loop,
     script: &Script,
     reloads: &[Reload],
-    shown: &mut Vec<Entry>,
+    shown: &mut Vec<RunEntry>,
 ) -> io::Result<()> {
     ends.connect_all(rt, clients_of(script))?;
     let mut loaded = 0;
@@ -506,11 +506,11 @@ pub fn drive<R: Net + Clock + AllocGlobal>(
 
 // Loads those reloads from this number on that come before the event of this place. The answer is the number of the first that is left.
 fn load_due(
-    ends: &mut Ends,
+    ends: &mut Loop,
     reloads: &[Reload],
     loaded: usize,
     place: usize,
-    shown: &mut Vec<Entry>,
+    shown: &mut Vec<RunEntry>,
 ) -> io::Result<usize> {
     for number in loaded..reloads.len() {
         match reloads.get(number) {

@@ -15,7 +15,7 @@ use text_words::escapes::Escaped;
 
 /// What a run shows.
 #[derive(Drop)]
-pub enum Entry {
+pub enum RunEntry {
     /// New output of a client.
     Shown(Output),
     /// The configuration of a reload is in use, as this generation.
@@ -48,18 +48,22 @@ fn write_refused<W: Write>(
 }
 
 // Writes the line of an entry.
-fn write_entry<W: Write>(reloads: &[Reload], entry: &Entry, out: &mut W) -> io::Result<()>
+fn write_entry<W: Write>(reloads: &[Reload], entry: &RunEntry, out: &mut W) -> io::Result<()>
     ensures { OnOk result (Appends (W.contents out.old) (W.contents out.new) (entry_line reloads.now entry.now)) }
 {
     match entry {
-        Entry::Shown(output) => write_output(output, out),
-        Entry::Loaded(generation) => write_loaded(*generation, out),
-        Entry::Kept(number, fault) => write_refused(reloads, *number, fault, out),
+        RunEntry::Shown(output) => write_output(output, out),
+        RunEntry::Loaded(generation) => write_loaded(*generation, out),
+        RunEntry::Kept(number, fault) => write_refused(reloads, *number, fault, out),
     }
 }
 
 /// Writes a line for each entry; those of configurations that were not loaded name servers of these reloads.
-pub fn write_entries<W: Write>(reloads: &[Reload], entries: &[Entry], out: &mut W) -> io::Result<()>
+pub fn write_entries<W: Write>(
+    reloads: &[Reload],
+    entries: &[RunEntry],
+    out: &mut W,
+) -> io::Result<()>
     ensures { OnOk result (Appends (W.contents out.old) (W.contents out.new) (entry_lines reloads.now entries.now)) }
 {
     for entry in entries {

@@ -5,8 +5,8 @@ ghost use Rattle.mcgate_check.specs.Checking.{IsNoOverrun};
 ghost use Rattle.script_events.specs.Told.{IsReading};
 ghost use Rattle.mcgate_loopback.specs.Running.{WritesRun, LoopbackBreaksOff, LoopbackRuns, LoopbackRunsScript, RunsRead, RunsLoopback};
 
-use crate::ends::{Counts, Ends, drive};
-use crate::entries::{Entry, write_entries};
+use crate::ends::{Counts, Loop, drive};
+use crate::entries::{RunEntry, write_entries};
 use crate::printing::write_done;
 use gate_check::{Accepted, judge};
 use mcgate_check::RunFault;
@@ -38,10 +38,10 @@ fn drive_ends<R: Net + Clock + AllocGlobal>(
     script: &ConfiguredScript,
     flushes_new: bool,
     most: u32,
-    shown: &mut Vec<Entry>,
+    shown: &mut Vec<RunEntry>,
 ) -> io::Result<Counts> {
     let servers = script.server_count() as usize;
-    let mut ends = Ends::open(rt, accepted, servers, flushes_new, most)?;
+    let mut ends = Loop::open(rt, accepted, servers, flushes_new, most)?;
     drive(
         rt,
         &mut ends,
@@ -56,7 +56,7 @@ fn drive_ends<R: Net + Clock + AllocGlobal>(
 fn write_driven<W: Write>(
     driven: &io::Result<Counts>,
     reloads: &[Reload],
-    shown: &[Entry],
+    shown: &[RunEntry],
     out: &mut W,
 ) -> Result<u8, RunFault>
     ensures ok { IfOk result (λ status. (status ≡ 0) × WritesRun reloads.now (W.contents out.old) (W.contents out.new)) }

@@ -4,7 +4,7 @@ use crate::calls::Calls;
 use crate::clients::READ_ROOM;
 use bytes::BytesMut;
 use cache_tcp::client::CacheClient;
-use cache_tcp::clock::Moment;
+use cache_tcp::clock::UnixTime;
 use cache_tcp::connection::Cache;
 use mc_types::{DATA_LIMIT, Key, ServerId};
 use mio::net::TcpListener;
@@ -139,7 +139,7 @@ impl ServerEnd {
         wire: &mut Sockets,
         failing: Option<Manner>,
         cache: &mut Cache,
-        moment: Moment,
+        moment: UnixTime,
     ) -> Result<bool, AllocError> {
         self.is_late = false;
         if failing == Some(Manner::Before) {
@@ -196,7 +196,7 @@ pub struct ServerEnds {
     caches: Vec<Cache>,
     ends: Vec<ServerEnd>,
     calls: Calls,
-    moment: Moment,
+    moment: UnixTime,
     // Whether `flush_all` empties one of them.
     flushes: bool,
     // How many bytes came and were sent.
@@ -237,10 +237,10 @@ fn add_server(alloc: Global, servers: &mut Servers, address: SocketAddr) -> io::
 }
 
 // A moment of a script; one before the first is that one.
-fn moment_of(seconds: i64) -> Moment {
+fn moment_of(seconds: i64) -> UnixTime {
     let seconds = u64::try_from(seconds).unwrap_or(0);
     let seconds = i64::try_from(seconds).unwrap_or(i64::MAX);
-    Moment { seconds }
+    UnixTime { seconds }
 }
 
 impl ServerEnds {

@@ -1,6 +1,6 @@
 //! What is said of a text that was to be loaded and wasn't: why it is no configuration, or what to run next.
 
-use crate::events::{Event, Field, Subject};
+use crate::events::{Field, LogEvent, Subject};
 use crate::lines::Lines;
 use mcgate_args::details::Details;
 use mcgate_args::serve_arguments::ServeJob;
@@ -11,7 +11,7 @@ use std::alloc::{AllocError, Global};
 const LONGEST: usize = 3_500;
 
 // Says a line that isn't too long.
-fn say<R: Eprint>(rt: &R, lines: &mut Lines, event: Event<'_>, line: &str) {
+fn say<R: Eprint>(rt: &R, lines: &mut Lines, event: LogEvent<'_>, line: &str) {
     if line.len() <= LONGEST {
         lines.tell(rt, event.with_text(), line);
     }
@@ -51,7 +51,7 @@ fn is_of_tree(said: &[u8]) -> bool {
 }
 
 // Says these lines, but for those that are too long.
-fn say_all<R: Eprint>(rt: &R, lines: &mut Lines, event: Event<'_>, details: &Details) {
+fn say_all<R: Eprint>(rt: &R, lines: &mut Lines, event: LogEvent<'_>, details: &Details) {
     for line in details.lines() {
         say(rt, lines, event, line.as_str());
     }
@@ -60,7 +60,12 @@ fn say_all<R: Eprint>(rt: &R, lines: &mut Lines, event: Event<'_>, details: &Det
 /// Says why the job's file can't be read, but for lines that are too long.
 pub fn say_unread<R: Eprint>(rt: &R, lines: &mut Lines, job: &ServeJob<'_>, details: &Details) {
     let fields = [Field::event("unread"), Field::text("file", job.file)];
-    say_all(rt, lines, Event::error(Subject::Config, &fields), details);
+    say_all(
+        rt,
+        lines,
+        LogEvent::error(Subject::Config, &fields),
+        details,
+    );
 }
 
 // The server whose epoch is over, where this was said of a text that is a configuration.
@@ -85,7 +90,12 @@ fn say_faults<R: AllocGlobal + Eprint>(
         }
     }
     let fields = [Field::event("fault"), Field::text("file", file)];
-    say_all(rt, lines, Event::warn(Subject::Config, &fields), &details);
+    say_all(
+        rt,
+        lines,
+        LogEvent::warn(Subject::Config, &fields),
+        &details,
+    );
 }
 
 /// Says more on standard error of a text of the job's file that isn't loaded, of which this was said: why it is no configuration, or which
@@ -102,7 +112,7 @@ pub fn say_why<R: AllocGlobal + Eprint>(
     } else if is_of_tree(said) {
         if let Ok(line) = plan_line(rt.alloc(), job) {
             let fields = [Field::event("advice"), Field::text("file", job.file)];
-            let event = Event::warn(Subject::Config, &fields);
+            let event = LogEvent::warn(Subject::Config, &fields);
             say(rt, lines, event, line.as_str());
         }
     }

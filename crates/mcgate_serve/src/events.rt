@@ -38,7 +38,7 @@ pub struct Field<'a> {
 
 /// What a line tells beside its text.
 #[derive(Clone, Copy)]
-pub struct Event<'a> {
+pub struct LogEvent<'a> {
     level: Level,
     subject: Subject,
     fields: &'a [Field<'a>],
@@ -93,10 +93,10 @@ impl<'a> Field<'a> {
     }
 }
 
-impl<'a> Event<'a> {
+impl<'a> LogEvent<'a> {
     /// Of this level and subject, with these keys. Where there are none the text of its line stands there.
-    pub fn new(level: Level, subject: Subject, fields: &'a [Field<'a>]) -> Event<'a> {
-        Event {
+    pub fn new(level: Level, subject: Subject, fields: &'a [Field<'a>]) -> LogEvent<'a> {
+        LogEvent {
             level,
             subject,
             fields,
@@ -106,36 +106,36 @@ impl<'a> Event<'a> {
     }
 
     /// What ends the program, or loses a promise or data.
-    pub fn error(subject: Subject, fields: &'a [Field<'a>]) -> Event<'a> {
-        Event::new(Level::Error, subject, fields)
+    pub fn error(subject: Subject, fields: &'a [Field<'a>]) -> LogEvent<'a> {
+        LogEvent::new(Level::Error, subject, fields)
     }
 
     /// What somebody should see.
-    pub fn warn(subject: Subject, fields: &'a [Field<'a>]) -> Event<'a> {
-        Event::new(Level::Warn, subject, fields)
+    pub fn warn(subject: Subject, fields: &'a [Field<'a>]) -> LogEvent<'a> {
+        LogEvent::new(Level::Warn, subject, fields)
     }
 
     /// What is of interest later.
-    pub fn info(subject: Subject, fields: &'a [Field<'a>]) -> Event<'a> {
-        Event::new(Level::Info, subject, fields)
+    pub fn info(subject: Subject, fields: &'a [Field<'a>]) -> LogEvent<'a> {
+        LogEvent::new(Level::Info, subject, fields)
     }
 
     /// What is of interest while a fault is looked for.
-    pub fn debug(subject: Subject, fields: &'a [Field<'a>]) -> Event<'a> {
-        Event::new(Level::Debug, subject, fields)
+    pub fn debug(subject: Subject, fields: &'a [Field<'a>]) -> LogEvent<'a> {
+        LogEvent::new(Level::Debug, subject, fields)
     }
 
     /// The same, and the text of its line stands behind the keys.
-    pub fn with_text(self) -> Event<'a> {
-        Event {
+    pub fn with_text(self) -> LogEvent<'a> {
+        LogEvent {
             has_text: true,
             ..self
         }
     }
 
     /// The same with further keys: words `key=value` with a space between two.
-    pub fn with_words(self, words: &'a str) -> Event<'a> {
-        Event { words, ..self }
+    pub fn with_words(self, words: &'a str) -> LogEvent<'a> {
+        LogEvent { words, ..self }
     }
 
     /// How urgent it is.
@@ -218,7 +218,7 @@ fn key_in(word: &str) -> Option<(&str, Value<'_>)> {
 /// quotation mark, `=` or what isn't printed ASCII, it stands within quotation marks.
 #[derive(Drop)]
 pub struct InWords<'a> {
-    pub event: Event<'a>,
+    pub event: LogEvent<'a>,
     /// The text of its line.
     pub text: &'a str,
 }
@@ -244,7 +244,7 @@ impl Display for InWords<'_> {
 /// The same within an object in JSON: `,"key":value` for its subject, each key, and the text of its line, as `line`.
 #[derive(Drop)]
 pub struct InJson<'a> {
-    pub event: Event<'a>,
+    pub event: LogEvent<'a>,
     /// The text of its line.
     pub text: &'a str,
 }

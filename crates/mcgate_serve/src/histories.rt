@@ -1,6 +1,6 @@
 //! The files of histories that `serve`, `check` and `history` are given.
 
-use crate::events::{Event, Field, Subject};
+use crate::events::{Field, LogEvent, Subject};
 use crate::lines::Lines;
 use crate::special::is_special;
 use gate_history::HistoryFile;
@@ -68,7 +68,7 @@ pub fn file_at<R: Files + Input + AllocGlobal + Eprint, W: Write>(
     if is_missing(rt, path) {
         let line = format_args!("mcgate: {path}: no such file: what is remembered begins now");
         let fields = [Field::event("new"), Field::text("file", path)];
-        lines.tell(rt, Event::info(Subject::History, &fields), line);
+        lines.tell(rt, LogEvent::info(Subject::History, &fields), line);
         return Ok(Some(new_file(rt.alloc())?));
     }
     let input = input_of(rt, path, details);

@@ -1,7 +1,7 @@
 //! Lines of a proxy that runs: each is written where that doesn't wait, and is lost and counted where it would, so that nothing that
 //! becomes of its outputs stops it.
 
-use crate::events::{Event, Field, InJson, InWords, Subject};
+use crate::events::{Field, InJson, InWords, LogEvent, Subject};
 use libc::net::{POLLOUT, poll};
 use libc::types::pollfd;
 use mcgate_args::log_arguments::{Level, Log};
@@ -116,7 +116,7 @@ impl Lines {
     fn timed<D: Display + Drop>(
         &self,
         log: Log,
-        event: Event<'_>,
+        event: LogEvent<'_>,
         line: D,
     ) -> Result<String, AllocError> {
         let told = format!(in self.alloc; "{line}")?;
@@ -139,7 +139,7 @@ impl Lines {
     }
 
     // Writes a line, if it is told. Whether it is lost.
-    fn loses<R: Eprint, D: Display + Drop>(&self, rt: &R, event: Event<'_>, line: D) -> bool {
+    fn loses<R: Eprint, D: Display + Drop>(&self, rt: &R, event: LogEvent<'_>, line: D) -> bool {
         let Some(log) = self.log else {
             return rt.eprintln(line).is_err();
         };
@@ -160,14 +160,14 @@ impl Lines {
         let lost = self.lost;
         let line = format_args!("mcgate: {lost} lines could not be written before");
         let fields = [Field::event("lost_lines"), Field::count("count", lost)];
-        if !self.loses(rt, Event::error(Subject::Process, &fields), line) {
+        if !self.loses(rt, LogEvent::error(Subject::Process, &fields), line) {
             self.lost_before = self.lost();
             self.lost = 0;
         }
     }
 
     /// A line for standard error, which tells this. Where lines have a level, what it tells is written with it, if that is urgent enough.
-    pub fn tell<R: Eprint, D: Display + Drop>(&mut self, rt: &R, event: Event<'_>, line: D) {
+    pub fn tell<R: Eprint, D: Display + Drop>(&mut self, rt: &R, event: LogEvent<'_>, line: D) {
         self.tell_lost(rt);
         let is_lost = !Output::Error.is_ready() || self.loses(rt, event, line);
         self.note(!is_lost);

@@ -1,6 +1,6 @@
 //! What is told of servers' names, in words and by keys.
 
-use crate::events::{Event, Field, Subject};
+use crate::events::{Field, LogEvent, Subject};
 use crate::lines::Lines;
 
 /// What is told of a server's name.
@@ -49,12 +49,12 @@ impl NameNews {
         }
     }
 
-    fn of<'a>(self, fields: &'a [Field<'a>]) -> Event<'a> {
+    fn of<'a>(self, fields: &'a [Field<'a>]) -> LogEvent<'a> {
         match self {
-            NameNews::Known | NameNews::Moved => Event::info(Subject::Server, fields),
-            NameNews::Unwritten => Event::error(Subject::Server, fields),
+            NameNews::Known | NameNews::Moved => LogEvent::info(Subject::Server, fields),
+            NameNews::Unwritten => LogEvent::error(Subject::Server, fields),
             NameNews::Unknown | NameNews::NotFound | NameNews::Kept => {
-                Event::warn(Subject::Server, fields)
+                LogEvent::warn(Subject::Server, fields)
             }
         }
     }

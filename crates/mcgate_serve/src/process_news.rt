@@ -1,6 +1,6 @@
 //! What is told of the program itself, in words and by keys.
 
-use crate::events::{Event, Field, Subject};
+use crate::events::{Field, LogEvent, Subject};
 use crate::lines::Lines;
 use mcgate_args::serve_arguments::ServeJob;
 use std::io;
@@ -19,7 +19,7 @@ pub fn tell_if_any<R: Eprint>(rt: &R, lines: &mut Lines, job: &ServeJob<'_>) {
     if job.any {
         lines.tell(
             rt,
-            Event::warn(Subject::Process, &[]),
+            LogEvent::warn(Subject::Process, &[]),
             "mcgate: WARNING: --any: no gate was asked, nothing is promised: replies may show deleted data",
         );
     }
@@ -43,7 +43,7 @@ pub fn tell_serving<R: Eprint>(
         Field::count("servers", servers as u64),
         Field::count("generation", u64::from(generation)),
     ];
-    let event = Event::info(Subject::Process, &fields);
+    let event = LogEvent::info(Subject::Process, &fields);
     match address {
         Ok(address) => {
             let others = after_first(places);
@@ -66,7 +66,7 @@ pub fn tell_if_new<R: Eprint>(rt: &R, lines: &mut Lines, job: &ServeJob<'_>) {
     if !job.any && job.history.is_none() {
         lines.tell(
             rt,
-            Event::info(Subject::History, &[]),
+            LogEvent::info(Subject::History, &[]),
             "mcgate: without --history what is promised begins now: no tree that was served before is remembered",
         );
     }
@@ -77,7 +77,7 @@ pub fn tell_if_giving_up<R: Eprint>(rt: &R, lines: &mut Lines, job: &ServeJob<'_
     if job.settings.give_up_ms.is_some() {
         lines.tell(
             rt,
-            Event::info(Subject::Process, &[]),
+            LogEvent::info(Subject::Process, &[]),
             "mcgate: with --give-up-ms what is promised rests on servers that apply no call once its connection was given up",
         );
     }
@@ -87,20 +87,20 @@ pub fn tell_if_giving_up<R: Eprint>(rt: &R, lines: &mut Lines, job: &ServeJob<'_
 pub fn tell_metrics<R: Eprint>(rt: &R, lines: &mut Lines, address: SocketAddr) {
     let fields = [Field::event("metrics"), Field::address("at", address)];
     let line = format_args!("mcgate: metrics on {address}");
-    lines.tell(rt, Event::info(Subject::Process, &fields), line);
+    lines.tell(rt, LogEvent::info(Subject::Process, &fields), line);
 }
 
 /// Tells where it listens for who tells it things.
 pub fn tell_control<R: Eprint>(rt: &R, lines: &mut Lines, path: &str) {
     let fields = [Field::event("control"), Field::text("at", path)];
     let line = format_args!("mcgate: control at {path}");
-    lines.tell(rt, Event::info(Subject::Process, &fields), line);
+    lines.tell(rt, LogEvent::info(Subject::Process, &fields), line);
 }
 
 /// Tells why the end of standard input can't be watched, which ends it.
 pub fn tell_unwatched<R: Eprint>(rt: &R, lines: &mut Lines, error: &io::Error) {
     let line = format_args!("mcgate: standard input can't be watched: {error}");
-    lines.tell(rt, Event::error(Subject::Process, &[]), line);
+    lines.tell(rt, LogEvent::error(Subject::Process, &[]), line);
 }
 
 /// Tells that it drains from now on, while so many clients are there.
@@ -110,7 +110,7 @@ pub fn tell_draining<R: Eprint>(rt: &R, lines: &mut Lines, clients: usize) {
         Field::count("clients", clients as u64),
     ];
     let line = format_args!("mcgate: draining, {clients} clients are there");
-    lines.tell(rt, Event::info(Subject::Process, &fields), line);
+    lines.tell(rt, LogEvent::info(Subject::Process, &fields), line);
 }
 
 /// Tells that it has drained, and how many clients were left.
@@ -120,5 +120,5 @@ pub fn tell_drained<R: Eprint>(rt: &R, lines: &mut Lines, clients: usize) {
         Field::count("clients", clients as u64),
     ];
     let line = format_args!("mcgate: drained, {clients} clients were left");
-    lines.tell(rt, Event::info(Subject::Process, &fields), line);
+    lines.tell(rt, LogEvent::info(Subject::Process, &fields), line);
 }

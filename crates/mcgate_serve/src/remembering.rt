@@ -4,7 +4,7 @@ ghost use Rattle.std.specs.Prelude.{◌≡◌, ℕ, List, Some, IfOk};
 ghost use Rattle.gate_history.specs.Standing.{StandsInHistory};
 ghost use Rattle.mcgate_serve.specs.Remembers.{MayStand};
 
-use crate::events::{Event, Field, Subject};
+use crate::events::{Field, LogEvent, Subject};
 use crate::folders::folder_of;
 use crate::lines::Lines;
 use crate::special::is_special;
@@ -122,7 +122,7 @@ pub fn tell_unwritten<R: AllocGlobal + Eprint>(
 ) {
     if let Ok(line) = unwritten_line(rt.alloc(), path, error) {
         let fields = [Field::event("unwritten"), Field::text("file", path)];
-        let event = Event::error(Subject::History, &fields);
+        let event = LogEvent::error(Subject::History, &fields);
         lines.tell(rt, event.with_text(), line.as_str());
     }
 }
@@ -130,7 +130,7 @@ pub fn tell_unwritten<R: AllocGlobal + Eprint>(
 // Says of a history that another process has written it.
 fn tell_other<R: Eprint>(rt: &R, lines: &mut Lines, path: &str) {
     let fields = [Field::event("other_wrote"), Field::text("file", path)];
-    let event = Event::error(Subject::History, &fields);
+    let event = LogEvent::error(Subject::History, &fields);
     lines.tell(rt, event, format_args!("mcgate: {path}: {OTHER_WROTE}"));
 }
 

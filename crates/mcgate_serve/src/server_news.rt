@@ -1,6 +1,6 @@
 //! What is told of a server's link, in words and by keys.
 
-use crate::events::{Event, Field, Subject};
+use crate::events::{Field, LogEvent, Subject};
 use crate::lines::Lines;
 use serve_links::{Cause, LinkNews};
 use std::fmt;
@@ -49,7 +49,7 @@ fn tell_failed<R: Eprint>(
         Field::count("in_a_row", u64::from(times)),
     ];
     let line = format_args!("mcgate: server {server}: {told}");
-    lines.tell(rt, Event::warn(Subject::Server, &fields), line);
+    lines.tell(rt, LogEvent::warn(Subject::Server, &fields), line);
 }
 
 // Tells anything else.
@@ -62,9 +62,9 @@ fn tell_other<R: Eprint>(
 ) {
     let fields = [Field::text("server", server), Field::event(event)];
     let event = match told.news {
-        LinkNews::Opened => Event::debug(Subject::Server, &fields),
-        LinkNews::Back => Event::info(Subject::Server, &fields),
-        LinkNews::Failed(_, _) | LinkNews::Late => Event::warn(Subject::Server, &fields),
+        LinkNews::Opened => LogEvent::debug(Subject::Server, &fields),
+        LinkNews::Back => LogEvent::info(Subject::Server, &fields),
+        LinkNews::Failed(_, _) | LinkNews::Late => LogEvent::warn(Subject::Server, &fields),
     };
     lines.tell(rt, event, format_args!("mcgate: server {server}: {told}"));
 }

@@ -1,6 +1,6 @@
 //! What is told of a new text of the file, by keys.
 
-use crate::events::{Event, Field, Subject};
+use crate::events::{Field, LogEvent, Subject};
 use crate::lines::Lines;
 
 // Whether these are words `key=value`.
@@ -25,9 +25,9 @@ fn tell_with<R: Eprint>(
 ) {
     let fields = [Field::text("verdict", verdict)];
     let event = if is_used {
-        Event::info(Subject::Reload, &fields)
+        LogEvent::info(Subject::Reload, &fields)
     } else {
-        Event::warn(Subject::Reload, &fields)
+        LogEvent::warn(Subject::Reload, &fields)
     };
     if are_keys(more) {
         lines.tell(rt, event.with_words(more), said);

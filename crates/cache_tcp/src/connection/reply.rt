@@ -7,7 +7,7 @@ ghost use Rattle.mc_types.specs.Asks.{IsAsk};
 ghost use Rattle.cache_server.specs.Contents.{at_moment};
 ghost use Rattle.cache_tcp.specs.ConnectionServing.{can_store, out_of_memory, AnswersAsk};
 
-use crate::connection::moment::Moment;
+use crate::clock::UnixTime;
 use cache_server::Cache;
 use mc_types::{Answer, Ask, ErrorText, Op, OwnText};
 use std::alloc::AllocError;
@@ -36,7 +36,7 @@ fn out_of_memory() -> Answer
 
 /// What the cache answers to an ask at this moment. A new item has stamp 0. Running out of memory is an answer where the ask may
 /// store an item, and the only error of the others; then nothing changes but that expired items are gone.
-pub fn reply_to(cache: &mut Cache, moment: Moment, ask: &Ask) -> Result<Answer, AllocError>
+pub fn reply_to(cache: &mut Cache, moment: UnixTime, ask: &Ask) -> Result<Answer, AllocError>
     requires { IsAsk ask.now }
     ensures ok { IfOk result (λ reply. AnswersAsk moment.seconds ask.now cache.old reply cache.new) }
     ensures err { OnErr result (cache.new ≡ at_moment (nat_abs moment.seconds) cache.old) }

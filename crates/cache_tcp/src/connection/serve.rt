@@ -10,7 +10,7 @@ ghost use Rattle.wire_stream.specs.Fronts.{AsksNone};
 ghost use Rattle.wire_stream.specs.Replies.{is_failure, shown_text};
 ghost use Rattle.cache_tcp.specs.Steps.{IsAskOf, IsKeyOf, IsOnWay, IsAnsweredSoFar, ShowsNextReply, ServesNext, PassesOn, RunsOn, StopsForMemory, StopsAtAsk, StopsNext, HasStopped, IsWithin, spot_at, place_by, asks_ended};
 
-use crate::connection::moment::Moment;
+use crate::clock::UnixTime;
 use crate::connection::reply::reply_to;
 use crate::connection::uses::Uses;
 use cache_server::Cache;
@@ -79,7 +79,7 @@ fn serve_ask(
     index: usize,
     ask: &Ask,
     cache: &mut Cache,
-    moment: Moment,
+    moment: UnixTime,
     uses: &mut Uses,
     out: &mut SendBuffer,
 ) -> Result<bool, AllocError>
@@ -103,7 +103,7 @@ fn serve_key(
     request: &Request,
     index: usize,
     cache: &mut Cache,
-    moment: Moment,
+    moment: UnixTime,
     uses: &mut Uses,
     out: &mut SendBuffer,
 ) -> Result<bool, AllocError>
@@ -126,7 +126,7 @@ fn serve_request(
     request: &Request,
     first: usize,
     cache: &mut Cache,
-    moment: Moment,
+    moment: UnixTime,
     uses: &mut Uses,
     out: &mut SendBuffer,
     most: usize,
@@ -168,7 +168,7 @@ pub fn serve(
     stream: &mut ClientStream,
     first: usize,
     cache: &mut Cache,
-    moment: Moment,
+    moment: UnixTime,
     uses: &mut Uses,
     out: &mut SendBuffer,
     most: usize,

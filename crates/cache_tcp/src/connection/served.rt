@@ -8,7 +8,7 @@ ghost use Rattle.wire_stream.specs.Held.{bytes_at};
 ghost use Rattle.cache_tcp.specs.Steps.{RunsOn, StopsForMemory, IsAnsweredSoFar, IsWithin, at_front, spot_at};
 ghost use Rattle.cache_tcp.specs.Flushing.{IsBetween};
 
-use crate::connection::moment::Moment;
+use crate::clock::UnixTime;
 use crate::connection::serve::serve;
 use crate::connection::uses::Uses;
 use cache_server::Cache;
@@ -98,7 +98,7 @@ impl Served {
         ensures stops { OnErr result (StopsForMemory moment self.old cache.old cache.new) }
         ensures within { IsWithin most (bytes_of out.old) → IsWithin most (bytes_of out.new) }
     {
-        let now = Moment { seconds: moment };
+        let now = UnixTime { seconds: moment };
         match serve(
             self.alloc,
             &mut self.stream,

@@ -4,7 +4,7 @@ use mc_types::ServerId;
 
 /// A change of a pool's servers.
 #[derive(Clone, Copy)]
-pub enum Change {
+pub enum ServerChange {
     /// This server is added, which has no slot yet.
     Add(ServerId),
     /// This one is taken out.

@@ -1,7 +1,7 @@
 //! New slots, planned: the added server gets slots of those that have the most, and those of a removed one go to those that have
 //! the fewest. Nothing is promised here: `testing` looks at what was planned.
 
-use crate::slots::change::Change;
+use crate::slots::change::ServerChange;
 use crate::slots::counts::SlotCounts;
 use crate::slots::earlier::never_had;
 use mc_types::ServerId;

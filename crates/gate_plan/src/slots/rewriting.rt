@@ -3,7 +3,7 @@
 ghost use Rattle.std.specs.Prelude.{IfOk, IfSome, map};
 ghost use Rattle.gate_plan.specs.Slots.{IsRewritten};
 
-use crate::slots::change::Change;
+use crate::slots::change::ServerChange;
 use crate::slots::planning::{grown, shrunk};
 use crate::slots::testing::{is_rewritten, share};
 use mc_types::ServerId;
@@ -11,17 +11,17 @@ use std::alloc::{AllocError, Global};
 
 fn planned(
     alloc: Global,
-    change: &Change,
+    change: &ServerChange,
     others: &[ServerId],
     earlier: &[Vec<ServerId>],
     slots: &[ServerId],
 ) -> Result<Vec<ServerId>, AllocError> {
     match change {
-        Change::Add(server) => {
+        ServerChange::Add(server) => {
             let share = share(slots.len(), others.len());
             grown(alloc, slots, *server, share, earlier)
         }
-        Change::Remove(server) => shrunk(alloc, slots, *server, others, earlier),
+        ServerChange::Remove(server) => shrunk(alloc, slots, *server, others, earlier),
     }
 }
 
@@ -30,7 +30,7 @@ fn planned(
 /// servers of the pool's list but for the one that is added or taken out. The only error is that memory was refused.
 pub fn rewritten(
     alloc: Global,
-    change: &Change,
+    change: &ServerChange,
     others: &[ServerId],
     earlier: &[Vec<ServerId>],
     slots: &[ServerId],

@@ -4,7 +4,7 @@ ghost use Rattle.std.specs.Prelude.{◌≡◌, ℕ, ◌<◌, ◌+◌, ◌/◌, S
 ghost use Rattle.std.specs.List.{list_any};
 ghost use Rattle.gate_plan.specs.Slots.{MayBecome, HasShare, IsRewritten};
 
-use crate::slots::change::Change;
+use crate::slots::change::ServerChange;
 use crate::slots::counts::count_of;
 use crate::slots::earlier::never_had;
 use mc_types::ServerId;
@@ -17,7 +17,7 @@ fn is_one_of(servers: &[ServerId], server: ServerId) -> bool
 
 // Whether a slot, of so many, may go from one server to another.
 fn may_become(
-    change: &Change,
+    change: &ServerChange,
     others: &[ServerId],
     earlier: &[Vec<ServerId>],
     count: usize,
@@ -28,10 +28,10 @@ fn may_become(
     ensures { result ≡ true → MayBecome change.now others.now (map (λ v. v.items) earlier.now) count slot from to }
 {
     match change {
-        Change::Add(server) => {
+        ServerChange::Add(server) => {
             to == from || (to == *server && never_had(earlier, to, slot, count))
         }
-        Change::Remove(server) => {
+        ServerChange::Remove(server) => {
             if from == *server {
                 to != *server && is_one_of(others, to) && never_had(earlier, to, slot, count)
             } else {
@@ -42,7 +42,7 @@ fn may_become(
 }
 
 fn are_moves(
-    change: &Change,
+    change: &ServerChange,
     others: &[ServerId],
     earlier: &[Vec<ServerId>],
     old: &[ServerId],
@@ -76,18 +76,18 @@ pub fn share(slots: usize, others: usize) -> usize
 }
 
 // Whether the server that is added has its share.
-fn has_share(change: &Change, others: &[ServerId], new: &[ServerId]) -> bool
+fn has_share(change: &ServerChange, others: &[ServerId], new: &[ServerId]) -> bool
     ensures { result ≡ true → HasShare change.now others.now new.now }
 {
     match change {
-        Change::Add(server) => count_of(new, *server) == share(new.len(), others.len()),
-        Change::Remove(_) => true,
+        ServerChange::Add(server) => count_of(new, *server) == share(new.len(), others.len()),
+        ServerChange::Remove(_) => true,
     }
 }
 
 /// Whether these slots are what a change may make of others.
 pub fn is_rewritten(
-    change: &Change,
+    change: &ServerChange,
     others: &[ServerId],
     earlier: &[Vec<ServerId>],
     old: &[ServerId],

@@ -3,7 +3,7 @@
 use crate::slots::arguments::SlotsChange;
 use crate::slots::fault::SlotsFault;
 use gate_gaps::{ConfigPool, read_pools};
-use gate_plan::slots::{Change, rewritten, table_of};
+use gate_plan::slots::{ServerChange, rewritten, table_of};
 use mc_types::ServerId;
 use route_json::addresses::is_server_name;
 use route_json::addresses::servers::MAX_SERVERS;
@@ -106,7 +106,7 @@ fn change_of<'a>(
     servers: &mut Servers,
     pool: &ConfigPool,
     change: SlotsChange<'a>,
-) -> Result<Option<Change>, SlotsFault<'a>> {
+) -> Result<Option<ServerChange>, SlotsFault<'a>> {
     match change {
         SlotsChange::Keep => Ok(None),
         SlotsChange::Add(address) => {
@@ -114,10 +114,10 @@ fn change_of<'a>(
             if has(pool.slots(), server) {
                 return Err(SlotsFault::HasSlots(address));
             }
-            Ok(Some(Change::Add(server)))
+            Ok(Some(ServerChange::Add(server)))
         }
         SlotsChange::Remove(address) => match servers.find(address) {
-            Some(server) if has(pool.servers(), server) => Ok(Some(Change::Remove(server))),
+            Some(server) if has(pool.servers(), server) => Ok(Some(ServerChange::Remove(server))),
             _ => Err(SlotsFault::NotThere(address)),
         },
     }
@@ -138,18 +138,18 @@ fn own_table(
 
 fn changed<'a>(
     alloc: Global,
-    change: Change,
+    change: ServerChange,
     earlier: &[Vec<ServerId>],
     list: &[ServerId],
     slots: &[ServerId],
 ) -> Result<Table, SlotsFault<'a>> {
-    let (Change::Add(server) | Change::Remove(server)) = change;
+    let (ServerChange::Add(server) | ServerChange::Remove(server)) = change;
     let others = others_of(alloc, list, Some(server))?;
     let Some(slots) = rewritten(alloc, &change, &others, earlier, slots)? else {
         return Err(SlotsFault::NoWay);
     };
     let mut servers = others;
-    if matches!(change, Change::Add(_)) {
+    if matches!(change, ServerChange::Add(_)) {
         servers.push(server)?;
     }
     Ok(Table { servers, slots })

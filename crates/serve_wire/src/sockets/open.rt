@@ -39,7 +39,7 @@ pub struct Open {
 
 /// Where a server is: at a host and a port, or at a path of this machine.
 #[derive(Drop)]
-pub enum Place {
+pub enum Location {
     Host(SocketAddr),
     Path(String),
 }
@@ -48,7 +48,7 @@ pub enum Place {
 #[derive(Drop)]
 pub struct Address {
     pub text: Vec<u8>,
-    pub place: Place,
+    pub place: Location,
 }
 
 fn read_some(mut stream: &TcpStream, into: &mut BytesMut) -> ReadOutcome

@@ -5,7 +5,7 @@ ghost use Rattle.serve_wire.specs.Calls.{Accepts};
 ghost use Rattle.serve_wire.specs.Events.{IsUntold, is_open, time};
 
 use crate::sockets::listener::{Listener, accept_at};
-use crate::sockets::open::{Address, Open, Owner, Place};
+use crate::sockets::open::{Address, Location, Open, Owner};
 use crate::sockets::options::end_if_gone;
 use crate::{Accepted, Connected, Lead, ReadOutcome, Ready, Record, Report, Wire, WriteOutcome};
 use bytes::BytesMut;
@@ -91,9 +91,9 @@ fn watch_all(poll: &Poll, listeners: &[Listener]) -> io::Result<()> {
 }
 
 // A connection to this place is begun.
-fn begin_at<N: Net>(net: &N, place: &Place, gone_after: Option<u32>) -> io::Result<TcpStream> {
+fn begin_at<N: Net>(net: &N, place: &Location, gone_after: Option<u32>) -> io::Result<TcpStream> {
     match place {
-        Place::Host(socket) => {
+        Location::Host(socket) => {
             let stream = TcpStream::connect(net, *socket)?;
             stream.set_nodelay(true)?;
             if let Some(seconds) = gone_after {
@@ -101,7 +101,7 @@ fn begin_at<N: Net>(net: &N, place: &Place, gone_after: Option<u32>) -> io::Resu
             }
             Ok(stream)
         }
-        Place::Path(path) => {
+        Location::Path(path) => {
             let stream = UnixStream::connect(net, path.as_str())?;
             Ok(TcpStream::from(OwnedFd::from(stream)))
         }
@@ -216,7 +216,7 @@ fn put_address(
     alloc: Global,
     addresses: &mut Vec<Address>,
     text: &[u8],
-    place: Place,
+    place: Location,
 ) -> Result<(), AllocError> {
     for known in addresses.iter_mut() {
         if known.text.as_slice() == text {
@@ -247,20 +247,20 @@ fn path_in(address: &str) -> Option<&str> {
 }
 
 // The first place to which the address in a server's name leads.
-fn look_up<N: Net>(alloc: Global, net: &N, name: &[u8]) -> io::Result<Place> {
+fn look_up<N: Net>(alloc: Global, net: &N, name: &[u8]) -> io::Result<Location> {
     let address = address_of(name)?;
     if let Some(path) = path_in(address) {
-        return Ok(Place::Path(String::from_str(alloc, path)?));
+        return Ok(Location::Path(String::from_str(alloc, path)?));
     }
     match address.to_socket_addrs(net)?.next() {
-        Some(socket) => Ok(Place::Host(socket)),
+        Some(socket) => Ok(Location::Host(socket)),
         None => Err(io::Error::from(ErrorKind::AddrNotAvailable)),
     }
 }
 
 // Where an address leads now, where calls go to this place.
-fn lead_of<N: Net>(net: &N, address: &str, place: &Place) -> io::Result<Lead> {
-    let Place::Host(socket) = place else {
+fn lead_of<N: Net>(net: &N, address: &str, place: &Location) -> io::Result<Lead> {
+    let Location::Host(socket) = place else {
         return Ok(Lead::Same);
     };
     let mut lead = None;
@@ -464,7 +464,7 @@ impl Wire for Sockets {
             return Connected::Failed;
         }
         let owner = Owner::Server(server);
-        let is_local = matches!(&address.place, Place::Path(_));
+        let is_local = matches!(&address.place, Location::Path(_));
         if self
             .open
             .insert(Open {
