@@ -9,7 +9,7 @@ use wire_parts::ProxyCommand;
 /// What a command word means: the words are lower case.
 ///
 /// Source: memcached's protocol.txt, "Commands"; the meta commands aren't among them.
-#[tactic(auto, using(crate::proofs::WordTable::by_reads), unfolding(crate::specs::CommandWords::verb_of))]
+#[tactic(auto, using(wire_parts::proofs::WordReads::by_reads), unfolding(crate::specs::CommandWords::verb_of))]
 pub fn verb(word: &[u8]) -> Option<Verb>
     ensures { result ≡ verb_of word.now }
 {

@@ -7,20 +7,17 @@ use crate::command::{Kind, Verb};
 /// What a command word means: the words are lower case.
 ///
 /// Source: memcached's protocol.txt, "Meta Commands"; `me` isn't served.
+#[tactic(auto, using(wire_parts::proofs::WordReads::by_reads), unfolding(crate::specs::CommandWords::verb_of))]
 pub fn verb(word: &[u8]) -> Option<Verb>
     ensures { result ≡ verb_of word.now }
 {
-    if word == b"mg".as_slice() {
-        Some(Verb::Keyed(Kind::Get))
-    } else if word == b"ms".as_slice() {
-        Some(Verb::Keyed(Kind::Store))
-    } else if word == b"md".as_slice() {
-        Some(Verb::Keyed(Kind::Delete))
-    } else if word == b"ma".as_slice() {
-        Some(Verb::Keyed(Kind::Count))
-    } else if word == b"mn".as_slice() {
-        Some(Verb::Noop)
-    } else {
-        None
-    }
+    let verb = match word {
+        b"mg" => Verb::Keyed(Kind::Get),
+        b"ms" => Verb::Keyed(Kind::Store),
+        b"md" => Verb::Keyed(Kind::Delete),
+        b"ma" => Verb::Keyed(Kind::Count),
+        b"mn" => Verb::Noop,
+        _ => return None,
+    };
+    Some(verb)
 }

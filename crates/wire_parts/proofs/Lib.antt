@@ -1,3 +1,4 @@
+pub mod WordReads
 pub mod Growing
 pub mod Pieces
 pub mod ToSendParts
