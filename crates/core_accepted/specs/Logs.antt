@@ -4,7 +4,7 @@ use Rattle.mc_types.specs.Items.{Item}
 use Rattle.fresh_runs.specs.Overlap as log
 use Rattle.fresh_runs.specs.Overlap.{Entry, run_of}
 use Rattle.fresh_runs.specs.OverlapState.{LeadsTo}
-use Rattle.fresh_runs.specs.Run.{LosesOnly, IsFresh, IsFreshByNumber}
+use Rattle.fresh_runs.specs.Run.{LosesOnly, IsFresh, IsFreshByNumber, commands_in}
 use Rattle.fresh_runs.specs.Stale.{stale_in}
 use Rattle.route_tree.specs.At.{tree_at}
 use Rattle.route_tree.specs.Each.{Each}
@@ -38,6 +38,10 @@ pub record MayHaveLed (opening : ℕ → List ℕ → Option Item) (past : List 
   pub plain : beside.at ≡ (λ n key. tree_at (tree n) key)
   pub fits : FitsBeside served.core beside
   pub leads : LeadsTo (tree_words beside.at) (bars_of served.core beside) opening past (state_of served.core beside)
+
+-- so many commands have begun in each log that may have led to the core
+abbrev pub CountsBegun : ServedCore → ℕ → Type 0
+CountsBegun served n = (opening : ℕ → List ℕ → Option Item) (past : List (Entry dialect)) → MayHaveLed opening past served → commands_in (run_of past) ≡ n
 
 -- the gate's word stays as it is, what the core counts goes on so, and each log that may have led to the core before goes on by entries of this kind, the latest first, and may have led to the core after. Servers stay
 pub record LogsGoCounting (count : CoreTally → CoreTally) (old : ServedCore) (IsKind : List (Entry dialect) → Type 0) (new : ServedCore) : Type 0 where

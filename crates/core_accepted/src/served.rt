@@ -9,7 +9,7 @@ ghost use Rattle.core_proxy.specs.CoreState.{IsOut, Opens, Feeds, GivesAll, Clos
 ghost use Rattle.core_commands.specs.Lines.{is_standing};
 ghost use Rattle.core_proxy.specs.Polls.{Polls, PollFault};
 ghost use Rattle.core_proxy.specs.Settles.{FitsCall, asked, SettleFault};
-ghost use Rattle.core_accepted.specs.Logs.{IsNew, IsNewFrom, IsUnchecked, LogsGoBy, fed};
+ghost use Rattle.core_accepted.specs.Logs.{IsNew, IsNewFrom, IsUnchecked, CountsBegun, LogsGoBy, fed};
 ghost use Rattle.core_accepted.specs.Tallies.{with_client, with_refusal, MakesPlaces, nothing_done};
 ghost use Rattle.core_accepted.specs.Loading.{IsTaken, TakesPlaces, IsLoaded, RefusesLoad};
 ghost use Rattle.core_accepted.specs.Results.{StaysCounting, PollGoes, PollStops, IsCallAt, TakesResult, SettleStops, IsSettled};
@@ -192,6 +192,14 @@ impl ServedCore {
         ensures { result.now ≡ self.now.tally }
     {
         &self.tally
+    }
+
+    /// How many commands have begun, one for each key of a message: so many begin in each log that may have led to the core.
+    pub fn begun(&self) -> u64
+        ensures exact { result ≡ self.now.core.number }
+        ensures counted { CountsBegun self.now result }
+    {
+        self.core.begun()
     }
 
     /// The client leaves the line of the key that its next command waits for: whether it stood in one. Nothing else changes, and

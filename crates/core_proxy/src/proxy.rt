@@ -183,6 +183,13 @@ impl Core {
         0 < self.commands.len()
     }
 
+    /// How many commands have begun. It takes no memory.
+    pub fn begun(&self) -> u64
+        ensures { result ≡ self.now.number }
+    {
+        self.number
+    }
+
     /// The number of the tree in use, counted from 1. It takes no memory.
     pub fn generation(&self) -> u32
         ensures { result ≡ self.now.generation }

@@ -5,6 +5,7 @@ use Rattle.mc_types.specs.Asks.{all_ops}
 use Rattle.route_tree.specs.Each.{Each}
 use Rattle.gate_gaps.specs.Names.{op_name}
 use Rattle.core_accepted.specs.declared.tally.CoreTally.{CoreTally}
+use Rattle.core_accepted.specs.declared.served.ServedCore.{ServedCore}
 use Rattle.route_json.specs.Servers.{Addresses}
 use Rattle.core_accepted.specs.Tallies.{of_op, of_server}
 use Rattle.watch_admin.specs.declared.families.Amount.TheVariants.{Count}
@@ -13,7 +14,7 @@ use Rattle.watch_admin.specs.declared.numbers.Numbers.{Numbers}
 use Rattle.watch_admin.specs.declared.numbers.ServerNumbers.{ServerNumbers}
 use Rattle.watch_admin.specs.Prometheus.{families_text}
 use Rattle.watch_admin.specs.Json.{object_json}
-use Rattle.watch_admin.specs.Told.{Labelled, Tells, IsAmong, TellsClients, TellsMessages, TellsCommands, TellsCalls, TellsServers, TellsUnplaced, one_labelled, command_count, command_counts}
+use Rattle.watch_admin.specs.Told.{Labelled, Tells, IsAmong, TellsClients, TellsMessages, TellsBegun, TellsCommands, TellsCalls, TellsServers, TellsUnplaced, one_labelled, command_count, command_counts}
 
 -- how many commands of an operation have ended with each kind of reply
 abbrev pub op_counts : CoreTally → Op → List Labelled
@@ -28,6 +29,7 @@ op_counts tally op =
 pub record FamiliesTell (numbers : Numbers) (families : List Family) : Type 0 where
   pub clients : TellsClients numbers.clients families
   pub messages : TellsMessages numbers.clients families
+  pub begun : TellsBegun numbers.begun families
   pub commands : TellsCommands numbers.commands.items families
   pub calls : TellsCalls numbers.calls families
   pub servers : TellsServers numbers.servers.items families
@@ -55,40 +57,42 @@ abbrev pub AreOfServers : CoreTally → Addresses → List ServerNumbers → Typ
 AreOfServers tally servers rows = Each (IsOfServer tally servers) rows
 
 -- these numbers have what the core counts, also of servers
-pub record HasTally (tally : CoreTally) (servers : Addresses) (numbers : Numbers) : Type 0 where
-  pub opened : numbers.clients.accepted ≡ tally.opened
-  pub refused : numbers.clients.refused ≡ tally.refused
-  pub bad_messages : numbers.clients.bad_messages ≡ tally.bad_messages
-  pub commands : flat_map command_counts numbers.commands.items ≡ flat_map (op_counts tally) all_ops
-  pub made : numbers.calls.made ≡ tally.calls
-  pub answered : numbers.calls.answered ≡ tally.answered
-  pub failed : numbers.calls.failed ≡ tally.failed
-  pub unplaced : numbers.calls.unplaced ≡ tally.unplaced
-  pub servers_are : AreOfServers tally servers numbers.servers.items
+pub record HasTally (core : ServedCore) (servers : Addresses) (numbers : Numbers) : Type 0 where
+  pub opened : numbers.clients.accepted ≡ core.tally.opened
+  pub refused : numbers.clients.refused ≡ core.tally.refused
+  pub bad_messages : numbers.clients.bad_messages ≡ core.tally.bad_messages
+  pub begun : numbers.begun ≡ core.core.number
+  pub commands : flat_map command_counts numbers.commands.items ≡ flat_map (op_counts core.tally) all_ops
+  pub made : numbers.calls.made ≡ core.tally.calls
+  pub answered : numbers.calls.answered ≡ core.tally.answered
+  pub failed : numbers.calls.failed ≡ core.tally.failed
+  pub unplaced : numbers.calls.unplaced ≡ core.tally.unplaced
+  pub servers_are : AreOfServers core.tally servers numbers.servers.items
 
--- what the core counts stands at its names: clients that came, messages that were refused, commands that have ended, and calls, also those of servers, each under its text, and how often one is counted at none
-pub record TellsTally (tally : CoreTally) (servers : Addresses) (families : List Family) : Type 0 where
+-- what the core counts stands at its names: clients that came, messages that were refused, commands that have begun and that have ended, and calls, also those of servers, each under its text, and how often one is counted at none
+pub record TellsTally (core : ServedCore) (servers : Addresses) (families : List Family) : Type 0 where
   pub clients :
       IsAmong
       (Tells
       (codes "mcgate_client_connections_total")
-      (one_labelled (codes "verdict") (codes "accepted") tally.opened ∷ one_labelled (codes "verdict") (codes "refused") tally.refused ∷ []))
+      (one_labelled (codes "verdict") (codes "accepted") core.tally.opened ∷ one_labelled (codes "verdict") (codes "refused") core.tally.refused ∷ []))
       families
-  pub bad_messages : IsAmong (Tells (codes "mcgate_bad_messages_total") (([], Count tally.bad_messages) ∷ [])) families
-  pub commands : IsAmong (Tells (codes "mcgate_commands_total") (flat_map (op_counts tally) all_ops)) families
-  pub made : IsAmong (Tells (codes "mcgate_calls_made_total") (([], Count tally.calls) ∷ [])) families
+  pub bad_messages : IsAmong (Tells (codes "mcgate_bad_messages_total") (([], Count core.tally.bad_messages) ∷ [])) families
+  pub begun : IsAmong (Tells (codes "mcgate_commands_begun_total") (([], Count core.core.number) ∷ [])) families
+  pub commands : IsAmong (Tells (codes "mcgate_commands_total") (flat_map (op_counts core.tally) all_ops)) families
+  pub made : IsAmong (Tells (codes "mcgate_calls_made_total") (([], Count core.tally.calls) ∷ [])) families
   pub ended :
       IsAmong
       (Tells
       (codes "mcgate_calls_total")
-      (one_labelled (codes "outcome") (codes "answered") tally.answered ∷ one_labelled (codes "outcome") (codes "failed") tally.failed ∷ []))
+      (one_labelled (codes "outcome") (codes "answered") core.tally.answered ∷ one_labelled (codes "outcome") (codes "failed") core.tally.failed ∷ []))
       families
-  pub of_servers : (rows : List ServerNumbers) × AreOfServers tally servers rows × TellsServers rows families
-  pub unplaced : IsAmong (Tells (codes "mcgate_calls_unplaced_total") (([], Count tally.unplaced) ∷ [])) families
+  pub of_servers : (rows : List ServerNumbers) × AreOfServers core.tally servers rows × TellsServers rows families
+  pub unplaced : IsAmong (Tells (codes "mcgate_calls_unplaced_total") (([], Count core.tally.unplaced) ∷ [])) families
 
 -- the text is that of such families, in Prometheus' format or in JSON
-abbrev pub TellsInPrometheus : CoreTally → Addresses → List ℕ → Type 0
-TellsInPrometheus tally servers text = (families : List Family) × TellsTally tally servers families × (text ≡ families_text families)
+abbrev pub TellsInPrometheus : ServedCore → Addresses → List ℕ → Type 0
+TellsInPrometheus core servers text = (families : List Family) × TellsTally core servers families × (text ≡ families_text families)
 
-abbrev pub TellsInJson : CoreTally → Addresses → List ℕ → Type 0
-TellsInJson tally servers text = (families : List Family) × TellsTally tally servers families × (text ≡ object_json families)
+abbrev pub TellsInJson : ServedCore → Addresses → List ℕ → Type 0
+TellsInJson core servers text = (families : List Family) × TellsTally core servers families × (text ≡ object_json families)

@@ -306,7 +306,7 @@ fn numbers_of<R: Files + AllocGlobal, W: Wire>(
     seen: &Seen,
     times: Times,
 ) -> io::Result<Numbers>
-    ensures { IfOk result (HasTally end.now.core.value.tally servers.now) }
+    ensures { IfOk result (HasTally end.now.core.value servers.now) }
 {
     let used = process_use(rt);
     Ok(Numbers {
@@ -323,6 +323,7 @@ fn numbers_of<R: Files + AllocGlobal, W: Wire>(
         refusal: seen.refusal(rt.alloc())?,
         clients: clients_of(end),
         departures: departures_of(rt.alloc(), end)?,
+        begun: end.commands_begun(),
         commands: commands_of(rt.alloc(), end)?,
         command_times: command_times_of(rt.alloc(), end)?,
         calls: calls_of(end),
@@ -339,7 +340,7 @@ pub fn stats_of<R: Files + AllocGlobal, W: Wire>(
     seen: &Seen,
     times: Times,
 ) -> io::Result<Vec<u8>>
-    ensures { IfOk result (λ text. TellsInJson end.now.core.value.tally servers.now text.items) }
+    ensures { IfOk result (λ text. TellsInJson end.now.core.value servers.now text.items) }
 {
     json_of(rt.alloc(), &numbers_of(rt, end, servers, seen, times)?)
 }
@@ -495,7 +496,7 @@ impl Watching {
         seen: &Seen,
         lost_lines: u64,
     ) -> io::Result<Numbers>
-        ensures { IfOk result (HasTally end.now.core.value.tally servers.now) }
+        ensures { IfOk result (HasTally end.now.core.value servers.now) }
     {
         let times = Times {
             uptime_ms: self.uptime(rt)?,
@@ -516,8 +517,8 @@ impl Watching {
         lost_lines: u64,
         text: &str,
     ) -> io::Result<Vec<u8>>
-        ensures metrics { page ≡ Metrics → IfOk result (λ told. TellsInPrometheus end.now.core.value.tally servers.now told.items) }
-        ensures stats { page ≡ Stats → IfOk result (λ told. TellsInJson end.now.core.value.tally servers.now told.items) }
+        ensures metrics { page ≡ Metrics → IfOk result (λ told. TellsInPrometheus end.now.core.value servers.now told.items) }
+        ensures stats { page ≡ Stats → IfOk result (λ told. TellsInJson end.now.core.value servers.now told.items) }
     {
         let alloc = rt.alloc();
         match page {

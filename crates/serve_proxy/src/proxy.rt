@@ -10,7 +10,7 @@ ghost use Rattle.serve_links.specs.Lateness.{usual_limits};
 ghost use Rattle.serve_links.specs.Links.{IsDownAt, IsClosedAt};
 ghost use Rattle.serve_links.specs.Story.{Agrees, texts_of, servers_of};
 ghost use Rattle.serve_proxy.specs.Ends.{Stay, StayButLimits, end_of, AllGoOn, AllDrop, AllLoad, HasNoConns};
-ghost use Rattle.core_accepted.specs.Logs.{TreesAreSound};
+ghost use Rattle.core_accepted.specs.Logs.{TreesAreSound, CountsBegun};
 ghost use Rattle.serve_proxy.specs.LogsGoOn.{LogsAreFresh};
 ghost use Rattle.serve_proxy.specs.Stalls.{held_by_all};
 ghost use Rattle.serve_proxy.specs.Stillness.{EndIsStill};
@@ -312,6 +312,14 @@ impl<W: Wire> ProxyEnd<W> {
         ensures { result.now ≡ self.now.core.value.tally }
     {
         self.core.tally()
+    }
+
+    /// How many commands have begun, one for each key of a message: as many as in each log that may have led to its core.
+    pub fn commands_begun(&self) -> u64
+        ensures exact { result ≡ self.now.core.value.core.number }
+        ensures counted { CountsBegun self.now.core.value result }
+    {
+        self.core.begun()
     }
 
     /// What it has done so far, beside its core.

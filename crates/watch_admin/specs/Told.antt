@@ -72,6 +72,10 @@ TellsClients clients families = IsAmong (Tells (codes "mcgate_client_connections
 abbrev pub TellsMessages : ClientNumbers → List Family → Type 0
 TellsMessages clients families = IsAmong (Tells (codes "mcgate_bad_messages_total") (([], Count clients.bad_messages) ∷ [])) families
 
+-- mcgate_commands_begun_total: how many commands have begun
+abbrev pub TellsBegun : ℕ → List Family → Type 0
+TellsBegun begun families = IsAmong (Tells (codes "mcgate_commands_begun_total") (([], Count begun) ∷ [])) families
+
 abbrev pub ended_counts : CallNumbers → List Labelled
 ended_counts calls = one_labelled (codes "outcome") (codes "answered") calls.answered ∷ one_labelled (codes "outcome") (codes "failed") calls.failed ∷ []
 

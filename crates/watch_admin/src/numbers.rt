@@ -2,7 +2,7 @@
 
 ghost use Rattle.std.specs.Prelude.{◌≡◌, ◌++◌, [], ◌∷◌, IfOk, OnOk, codes, string_bytes, map as each_of, flat_map};
 ghost use Rattle.watch_admin.specs.declared.families.Amount.TheVariants.{Count};
-ghost use Rattle.watch_admin.specs.Told.{label_read, sample_read, command_count, command_counts, one_labelled, came_counts, ended_counts, server_count, made_count, outcome_count, outcome_counts, TellsCommands, TellsClients, TellsMessages, TellsCalls, TellsServers, TellsUnplaced, Tells, IsAmong, AddsTo};
+ghost use Rattle.watch_admin.specs.Told.{label_read, sample_read, command_count, command_counts, one_labelled, came_counts, ended_counts, server_count, made_count, outcome_count, outcome_counts, TellsCommands, TellsClients, TellsMessages, TellsBegun, TellsCalls, TellsServers, TellsUnplaced, Tells, IsAmong, AddsTo};
 
 use crate::families::{Amount, Family, Label, MetricKind, Sample, Samples, Spread};
 use std::alloc::{AllocError, Global};
@@ -183,6 +183,8 @@ pub struct Numbers {
     pub clients: ClientNumbers,
     /// How many of its clients have gone, a row for each cause.
     pub departures: Vec<CauseNumbers>,
+    /// How many commands have begun, one for each key of a message.
+    pub begun: u64,
     pub commands: Vec<CommandNumbers>,
     pub command_times: CommandTimes,
     pub calls: CallNumbers,
@@ -457,6 +459,20 @@ fn add_bad_messages(clients: &ClientNumbers, families: &mut Vec<Family>) -> Resu
         "mcgate_bad_messages_total",
         "Messages of clients that were no valid commands, or had too large data, and were answered by an error.",
         clients.bad_messages,
+    ))?;
+    Ok(())
+}
+
+// How many commands have begun.
+#[tactic(auto, using(crate::proofs::Told::last_is_among))]
+fn add_begun(begun: u64, families: &mut Vec<Family>) -> Result<(), AllocError>
+    ensures adds { OnOk result (AddsTo families.old.items families.new.items) }
+    ensures told { OnOk result (TellsBegun begun families.new.items) }
+{
+    families.push(counter(
+        "mcgate_commands_begun_total",
+        "Commands that have begun, one for each key.",
+        begun,
     ))?;
     Ok(())
 }
@@ -1007,7 +1023,7 @@ fn add_rest(
 }
 
 /// The families of these numbers. One of them, `mcgate_client_connections_total`, has just how many clients were accepted and refused; one,
-/// `mcgate_bad_messages_total`, how many of their messages were refused; one, `mcgate_commands_total`, of each operation how many commands ended with each
+/// `mcgate_bad_messages_total`, how many of their messages were refused; one, `mcgate_commands_begun_total`, how many commands have begun; one, `mcgate_commands_total`, of each operation how many commands ended with each
 /// kind of reply; `mcgate_calls_made_total` and `mcgate_calls_total` have how many calls were made, and how many of them were answered and have
 /// failed; and `mcgate_server_calls_made_total` and `mcgate_server_calls_total` the same of each server, where those unsent stand apart;
 /// `mcgate_calls_unplaced_total` how often a call is counted at no server. Of the numbers of other families no clause tells. The only error is that memory was refused.
@@ -1015,6 +1031,7 @@ fn add_rest(
 pub fn families_of(alloc: Global, numbers: &Numbers) -> Result<Vec<Family>, AllocError>
     ensures clients { IfOk result (λ families. TellsClients numbers.now.clients families.items) }
     ensures messages { IfOk result (λ families. TellsMessages numbers.now.clients families.items) }
+    ensures begun { IfOk result (λ families. TellsBegun numbers.now.begun families.items) }
     ensures commands { IfOk result (λ families. TellsCommands numbers.now.commands.items families.items) }
     ensures calls { IfOk result (λ families. TellsCalls numbers.now.calls families.items) }
     ensures servers { IfOk result (λ families. TellsServers numbers.now.servers.items families.items) }
@@ -1027,6 +1044,7 @@ pub fn families_of(alloc: Global, numbers: &Numbers) -> Result<Vec<Family>, Allo
     let departures = numbers.departures.as_slice();
     add_clients(alloc, &numbers.clients, departures, &mut families)?;
     add_bad_messages(&numbers.clients, &mut families)?;
+    add_begun(numbers.begun, &mut families)?;
     add_commands(alloc, numbers.commands.as_slice(), &mut families)?;
     add_command_times(alloc, &numbers.command_times, &mut families)?;
     add_all_calls(alloc, &numbers.calls, &mut families)?;
@@ -1057,6 +1075,7 @@ fn refusal_samples(
 pub fn families_with_lines(alloc: Global, numbers: &Numbers) -> Result<Vec<Family>, AllocError>
     ensures clients { IfOk result (λ families. TellsClients numbers.now.clients families.items) }
     ensures messages { IfOk result (λ families. TellsMessages numbers.now.clients families.items) }
+    ensures begun { IfOk result (λ families. TellsBegun numbers.now.begun families.items) }
     ensures commands { IfOk result (λ families. TellsCommands numbers.now.commands.items families.items) }
     ensures calls { IfOk result (λ families. TellsCalls numbers.now.calls families.items) }
     ensures servers { IfOk result (λ families. TellsServers numbers.now.servers.items families.items) }

@@ -62,6 +62,9 @@ mcgate_client_bytes_total{direction="out"} 18446744073709551615
 # HELP mcgate_bad_messages_total Messages of clients that were no valid commands, or had too large data, and were answered by an error.
 # TYPE mcgate_bad_messages_total counter
 mcgate_bad_messages_total 30
+# HELP mcgate_commands_begun_total Commands that have begun, one for each key.
+# TYPE mcgate_commands_begun_total counter
+mcgate_commands_begun_total 68
 # HELP mcgate_commands_total Commands that have ended, one for each key: with an item in the reply, as an acknowledged delete, with an error, or otherwise.
 # TYPE mcgate_commands_total counter
 mcgate_commands_total{op="get",reply="item"} 11
@@ -156,6 +159,7 @@ fn stats() -> &'static str {
 "mcgate_clients_closed_total":[{"cause":"ended","value":9},{"cause":"stalled","value":27}],
 "mcgate_client_bytes_total":[{"direction":"in","value":10},{"direction":"out","value":18446744073709551615}],
 "mcgate_bad_messages_total":30,
+"mcgate_commands_begun_total":68,
 "mcgate_commands_total":[{"op":"get","reply":"item","value":11},{"op":"get","reply":"acknowledged","value":12},{"op":"get","reply":"error","value":23},{"op":"get","reply":"other","value":13}],
 "mcgate_command_seconds":{"le":[{"le":"0.0001","value":10},{"le":"+Inf","value":18}],"sum":[{"value":2.000020}],"n":[{"value":18}]},
 "mcgate_calls_made_total":24,
@@ -288,6 +292,7 @@ fn numbers(alloc: Global) -> Result<Numbers, AllocError> {
             sent_bytes: u64::MAX,
         },
         departures: departures(alloc)?,
+        begun: 68,
         commands: commands(alloc)?,
         command_times: CommandTimes {
             ended: 18,

@@ -9,12 +9,18 @@ pub returns-clause-clients : goal.returns-clause-clients
 returns-clause-clients c =
     let rest = more_then _ _ _ c.in_ok-add_servers.ensures (more_then _ _ _ c.in_ok-add_calls_of_servers.ensures.adds c.in_ok-add_rest.ensures) in
     stays_among _ _ _ c.in_ok-add_clients.ensures.told
-    (more_then _ _ _ c.in_ok-add_bad_messages.ensures.adds (more_then _ _ _ c.in_ok-add_commands.ensures.adds (more_then _ _ _ c.in_ok-add_command_times.ensures (more_then _ _ _ c.in_ok-add_all_calls.ensures.adds rest))))
+    (more_then _ _ _ c.in_ok-add_bad_messages.ensures.adds (more_then _ _ _ c.in_ok-add_begun.ensures.adds (more_then _ _ _ c.in_ok-add_commands.ensures.adds (more_then _ _ _ c.in_ok-add_command_times.ensures (more_then _ _ _ c.in_ok-add_all_calls.ensures.adds rest)))))
 
 pub returns-clause-messages : goal.returns-clause-messages
 returns-clause-messages c =
     let rest = more_then _ _ _ c.in_ok-add_servers.ensures (more_then _ _ _ c.in_ok-add_calls_of_servers.ensures.adds c.in_ok-add_rest.ensures) in
     stays_among _ _ _ c.in_ok-add_bad_messages.ensures.told
+    (more_then _ _ _ c.in_ok-add_begun.ensures.adds (more_then _ _ _ c.in_ok-add_commands.ensures.adds (more_then _ _ _ c.in_ok-add_command_times.ensures (more_then _ _ _ c.in_ok-add_all_calls.ensures.adds rest))))
+
+pub returns-clause-begun : goal.returns-clause-begun
+returns-clause-begun c =
+    let rest = more_then _ _ _ c.in_ok-add_servers.ensures (more_then _ _ _ c.in_ok-add_calls_of_servers.ensures.adds c.in_ok-add_rest.ensures) in
+    stays_among _ _ _ c.in_ok-add_begun.ensures.told
     (more_then _ _ _ c.in_ok-add_commands.ensures.adds (more_then _ _ _ c.in_ok-add_command_times.ensures (more_then _ _ _ c.in_ok-add_all_calls.ensures.adds rest)))
 
 pub returns-clause-commands : goal.returns-clause-commands

@@ -7,6 +7,9 @@ returns-clause-clients c = stays_among _ _ _ c.in_ok-families.ensures.clients (o
 pub returns-clause-messages : goal.returns-clause-messages
 returns-clause-messages c = stays_among _ _ _ c.in_ok-families.ensures.messages (one_more _ _ _ c.in_ok-push.ensures.items)
 
+pub returns-clause-begun : goal.returns-clause-begun
+returns-clause-begun c = stays_among _ _ _ c.in_ok-families.ensures.begun (one_more _ _ _ c.in_ok-push.ensures.items)
+
 pub returns-clause-commands : goal.returns-clause-commands
 returns-clause-commands c = stays_among _ _ _ c.in_ok-families.ensures.commands (one_more _ _ _ c.in_ok-push.ensures.items)
 
