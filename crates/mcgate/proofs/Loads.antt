@@ -37,6 +37,7 @@ use Rattle.mcgate.specs.Sharing.{sharing_for}
 use Rattle.mcgate_serve.specs.declared.serving.Serving.{Serving}
 use Rattle.mcgate_serve.specs.Serves.{proxy_of}
 use Rattle.mcgate_serve.specs.Limits.{ServesFrom}
+use Rattle.mcgate_serve.specs.LooksUp.{AreLookedUp}
 use Rattle.mcgate.specs.Served.{history_of, HasTree, IsUsedFirst, HasServers, BeginsBy, BeginsToServe, BeginsServing, GoFreshly, GoFreshlyLate, HasServed, StaysFresh}
 
 -- an end that began by these settings but for its sharing, which is that of its tree
@@ -60,10 +61,10 @@ servers_on servable known servers (Err fault) is has same = tt
 -- what serves is over an end that begins
 pub begins_serving :
     {E : Type 0} (servable : Servable) (begun : Beginnings) (settings : Settings) (servers : Addresses) (end : ProxyEnd Sockets) (r : Result (Serving Sockets) E) → IfOk r (λ serving. serving.end ≡ end)
-    → BeginsToServe servable begun settings end.core.value → Agrees [] (proxy_of history_of end) → texts_of end.sockets.links.all.items ≡ servers → HasServers servable servers → IfOk r (λ serving. BeginsServing servable begun settings serving.end)
-begins_serving servable begun settings servers end (Ok serving) is begins agrees texts has =
-    subst (λ x. BeginsServing servable begun settings x) (sym is) (record { core = begins; agrees = agrees; servers = subst (λ (l : Addresses). HasServers servable l) (sym texts) has })
-begins_serving servable begun settings servers end (Err fault) is begins agrees texts has = tt
+    → BeginsToServe servable begun settings end.core.value → Agrees [] (proxy_of history_of end) → texts_of end.sockets.links.all.items ≡ servers → AreLookedUp 0 servers (history_of end.sockets.wire) → HasServers servable servers → IfOk r (λ serving. BeginsServing servable begun settings serving.end)
+begins_serving servable begun settings servers end (Ok serving) is begins agrees texts looked has =
+    subst (λ x. BeginsServing servable begun settings x) (sym is) (record { core = begins; agrees = agrees; servers = subst (λ (l : Addresses). HasServers servable l) (sym texts) has; looked = subst (λ (l : Addresses). AreLookedUp 0 l (history_of end.sockets.wire)) (sym texts) looked })
+begins_serving servable begun settings servers end (Err fault) is begins agrees texts looked has = tt
 
 -- an end that agreed with nothing at first agrees with all that was done since, and where the gate accepted, each log goes on by that freshly
 has_freshly : (servable : Servable) (begun : Beginnings) (settings : Settings) (steps : List Step) (a b : ServedCore) → BeginsBy servable begun settings a → Walks steps a b → LogsAreFresh b → GoFreshly servable begun steps a b

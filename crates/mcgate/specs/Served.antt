@@ -23,6 +23,7 @@ use Rattle.serve_proxy.specs.LogsGoOn.{LogsGoFreshly}
 use Rattle.core_accepted.specs.Copying.{CopiesNothing}
 use Rattle.mcgate_serve.specs.Serves.{proxy_of, GoesOnServing}
 use Rattle.mcgate_serve.specs.Limits.{UseTexts}
+use Rattle.mcgate_serve.specs.LooksUp.{AreLookedUp}
 use Rattle.serve_links.specs.Lateness.{usual_limits}
 use Rattle.mcgate.specs.Sharing.{sharing_for}
 use Rattle.mcgate.specs.declared.serve.Servable.{Servable}
@@ -63,11 +64,12 @@ abbrev pub HasServers : Servable → Addresses → Type 0
 HasServers (servables.Accepted accepted) servers = (configuration : Configuration) × IsLast accepted configuration × (servers ≡ configuration.servers)
 HasServers (servables.Unchecked configuration) servers = servers ≡ configuration.servers
 
--- an end of a proxy that begins with a new core of this: nothing was fed or given, each link is to its server, and no link has a connection
+-- an end of a proxy that begins with a new core of this: nothing was fed or given, each link is to its server, whose text was looked up, and no link has a connection
 pub record BeginsServing (servable : Servable) (begun : Beginnings) (settings : Settings) (end : ProxyEnd Sockets) : Type 0 where
   pub core : BeginsToServe servable begun settings end.core.value
   pub agrees : Agrees [] (proxy_of history_of end)
   pub servers : HasServers servable (texts_of end.sockets.links.all.items)
+  pub looked : AreLookedUp 0 (texts_of end.sockets.links.all.items) (history_of end.sockets.wire)
 
 -- where the gate accepted what is served, each log that may have led to the first core goes on by just these calls, and is fresh then, if servers began as is said of its configuration
 abbrev pub GoFreshly : Servable → Beginnings → List Step → ServedCore → ServedCore → Type 0

@@ -168,6 +168,7 @@ fn end_over(
     ensures core { IfOk result (λ end. BeginsToServe servable begun settings end.core.value) }
     ensures ends { IfOk result (λ end. HasNoConns (history_of wire) → Agrees [] (proxy_of history_of end)) }
     ensures texts { IfOk result (λ end. texts_of end.sockets.links.all.items ≡ servers.now) }
+    ensures wire { IfOk result (λ end. end.sockets.wire ≡ wire) }
 {
     let mut settings = settings;
     match servable {
@@ -310,6 +311,7 @@ fn open<R: Net + Clock + AllocGlobal + Eprint>(
     ensures core { IfOk result (λ end. BeginsToServe servable job.now.begun job.now.settings end.core.value) }
     ensures ends { IfOk result (λ end. Agrees [] (proxy_of history_of end)) }
     ensures texts { IfOk result (λ end. texts_of end.sockets.links.all.items ≡ servers.now) }
+    ensures looked { IfOk result (λ end. AreLookedUp 0 servers.now (history_of end.sockets.wire)) }
 {
     let wire = listen(rt, lines, seen, job, listeners, servers)?;
     Ok(end_over(rt.alloc(), wire, servable, servers, job.begun, job.settings)?)

@@ -107,6 +107,7 @@ impl<W: Wire + Drop> ProxyEnd<W> {
         ensures core { IfOk result (λ end. BeginsFresh accepted begun settings end.core.value) }
         ensures ends { IfOk result (λ end. HasNoConns (W.history wire) → Agrees [] (end_of W.history end.core.value end.sockets)) }
         ensures texts { IfOk result (λ end. texts_of end.sockets.links.all.items ≡ servers.now) }
+        ensures wire { IfOk result (λ end. end.sockets.wire ≡ wire) }
     {
         let links = Links::to(alloc, servers, settings)?;
         let core = fresh_core(alloc, accepted, begun, settings)?;
@@ -124,6 +125,7 @@ impl<W: Wire + Drop> ProxyEnd<W> {
         ensures core { IfOk result (λ end. BeginsUnchecked tree settings end.core.value) }
         ensures ends { IfOk result (λ end. HasNoConns (W.history wire) → Agrees [] (end_of W.history end.core.value end.sockets)) }
         ensures texts { IfOk result (λ end. texts_of end.sockets.links.all.items ≡ servers.now) }
+        ensures wire { IfOk result (λ end. end.sockets.wire ≡ wire) }
     {
         let links = Links::to(alloc, servers, settings)?;
         let core = unchecked_core(alloc, tree, servers.len(), settings)?;
