@@ -13,7 +13,7 @@ use Rattle.gate_growth.specs.declared.ledger.book.Ledger.{Ledger}
 use Rattle.gate_growth.specs.declared.ledger.unsound.Unsound.{Unsound}
 use Rattle.gate_growth.specs.declared.ledger.page.Beginning.{Beginning}
 use Rattle.gate_growth.specs.Pages.{is_any, AreOpened}
-use Rattle.gate_growth.specs.Ledgers.{server_count, IsLedgerOf, IsUnsoundFor}
+use Rattle.gate_growth.specs.Ledgers.{count_of_known, IsLedgerOf, IsUnsoundFor}
 use Rattle.gate_growth.proofs.Since.{sound_since}
 use Rattle.core_accepted.specs.declared.beginnings.Beginnings.{Beginnings}
 use Rattle.core_accepted.specs.Known.{Known, is_arbitrary, first_of, more, IsBookOf}
@@ -65,7 +65,7 @@ first_book xs c begun configs founders last are is size =
 -- and with its ledger
 pub opened_book :
     (known : Known) (first : Configuration) (opened : Beginning) (ledger : Ledger) → slice_get known.configs 0 ≡ Some first → known.begun.opened ≡ opened → IsBookOf known None
-    → ((arbitrary : ℕ → Bool) → AreOpened arbitrary 0 (length first.servers) opened → IsLedgerOf arbitrary (first.tree ∷ []) ledger) → server_count ledger ≡ length first.servers → IsBookOf known (Some ledger)
+    → ((arbitrary : ℕ → Bool) → AreOpened arbitrary 0 (length first.servers) opened → IsLedgerOf arbitrary (first.tree ∷ []) ledger) → count_of_known ledger ≡ length first.servers → IsBookOf known (Some ledger)
 opened_book known first opened ledger at begun book makes count =
     let alone = book.kept.1 in
     let same : book.kept.0 ≡ first = cc (at, alone) in
@@ -84,13 +84,13 @@ opened_book known first opened ledger at begun book makes count =
 -- of one more, or as it was
 pub next_book :
     (known : Known) (config : Configuration) (old new : Ledger) (configs : List Configuration) (r : Result ℕ Unsound) → IsBookOf known (Some old)
-    → (IsLedgerOf (is_arbitrary known) (trees_of known.configs) old → AreOpened (is_arbitrary known) (server_count old) (length config.servers) known.begun.added
+    → (IsLedgerOf (is_arbitrary known) (trees_of known.configs) old → AreOpened (is_arbitrary known) (count_of_known old) (length config.servers) known.begun.added
     → MatchResult r (λ n. (n ≡ suc (length (trees_of known.configs))) × IsLedgerOf (is_arbitrary known) (trees_of known.configs ++ config.tree ∷ []) new) (IsUnsoundFor (is_arbitrary known) (trees_of known.configs) config.tree))
-    → OnOk r (configs ≡ known.configs ++ config ∷ []) → OnOk r (server_count new ≡ max (server_count old) (length config.servers)) → OnErr r ((new ≡ old) × (configs ≡ known.configs))
+    → OnOk r (configs ≡ known.configs ++ config ∷ []) → OnOk r (count_of_known new ≡ max (count_of_known old) (length config.servers)) → OnErr r ((new ≡ old) × (configs ≡ known.configs))
     → IsBookOf (record known { configs = configs }) (Some new)
 next_book known config old new configs (Ok n) book followed taken servers same =
     let founded = book.kept.1 in
-    let next = followed book.kept.0 (others_open known (server_count old) (length config.servers) founded) in
+    let next = followed book.kept.0 (others_open known (count_of_known old) (length config.servers) founded) in
     let trees : trees_of configs ≡ trees_of known.configs ++ config.tree ∷ [] = ap trees_of taken ∙ trees_more known.configs config in
     let count = length_push known.configs config in
     let size = ap length taken in
@@ -107,11 +107,11 @@ next_book known config old new configs (Err u) book followed taken servers same 
 -- the number of the next one
 pub next_number :
     (known : Known) (config : Configuration) (old new : Ledger) (r : Result ℕ Unsound) → IsBookOf known (Some old)
-    → (IsLedgerOf (is_arbitrary known) (trees_of known.configs) old → AreOpened (is_arbitrary known) (server_count old) (length config.servers) known.begun.added
+    → (IsLedgerOf (is_arbitrary known) (trees_of known.configs) old → AreOpened (is_arbitrary known) (count_of_known old) (length config.servers) known.begun.added
     → MatchResult r (λ n. (n ≡ suc (length (trees_of known.configs))) × IsLedgerOf (is_arbitrary known) (trees_of known.configs ++ config.tree ∷ []) new) (IsUnsoundFor (is_arbitrary known) (trees_of known.configs) config.tree))
     → MatchResult r (λ n. n ≡ suc (length (trees_of known.configs))) (IsUnsoundFor (is_arbitrary known) (trees_of known.configs) config.tree)
-next_number known config old new (Ok n) book followed = (followed book.kept.0 (others_open known (server_count old) (length config.servers) book.kept.1)).0
-next_number known config old new (Err u) book followed = followed book.kept.0 (others_open known (server_count old) (length config.servers) book.kept.1)
+next_number known config old new (Ok n) book followed = (followed book.kept.0 (others_open known (count_of_known old) (length config.servers) book.kept.1)).0
+next_number known config old new (Err u) book followed = followed book.kept.0 (others_open known (count_of_known old) (length config.servers) book.kept.1)
 
 -- what came of one more
 pub next_known :

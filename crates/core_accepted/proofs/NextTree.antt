@@ -21,7 +21,7 @@ use Rattle.core_accepted.specs.Tallies.{MakesPlaces}
 use Rattle.core_accepted.specs.Known.{Known, is_arbitrary, more}
 use Rattle.core_accepted.specs.Logs.{MayBeLoaded, MayHaveLed}
 use Rattle.core_accepted.specs.declared.loading.LoadFault.{LoadFault}
-use Rattle.core_accepted.specs.Loading.{TakesOver, IsGeneration, AreSoundIfAsked, IsTaken, TakesPlaces, IsLoaded, RefusesLoad}
+use Rattle.core_accepted.specs.Loading.{TakesOver, IsGeneration, AreSoundIfAsked, IsTakenUp, TakesPlaces, IsLoaded, RefusesLoad}
 
 more_at : (xs : List Route) (y : Route) (i : ℕ) (x : Route) → slice_get xs i ≡ Some x → slice_get (xs ++ y ∷ []) i ≡ Some x
 more_at [] y i x e = absurd (cc)
@@ -95,7 +95,7 @@ over old x word new step loads opening past led =
 -- of one more configuration that the gate accepted
 loads_accepted :
     (old : ServedCore) (x : Core) (was now : Known) (config : Configuration) (number : ℕ) → old.accepted ≡ Some was → now ≡ more config was → number ≡ length now.configs
-    → AreSoundSince (is_arbitrary now) (trees_of now.configs) → core_state.Reloads old.core config.tree x → IsTaken old config number (record old { core = x; accepted = Some now })
+    → AreSoundSince (is_arbitrary now) (trees_of now.configs) → core_state.Reloads old.core config.tree x → IsTakenUp old config number (record old { core = x; accepted = Some now })
 loads_accepted old x was now config number word is count sound step = record {
   word = ap Some is ∙ sym (ap (option_map (more config)) word);
   tally = refl;
@@ -111,7 +111,7 @@ loads_accepted old x was now config number word is count sound step = record {
 -- of a configuration of which no gate was asked
 loads_any :
     (old : ServedCore) (x : Core) (config : Configuration) (number : ℕ) → old.accepted ≡ None → number ≡ x.generation → core_state.Reloads old.core config.tree x
-    → IsTaken old config number (record old { core = x })
+    → IsTakenUp old config number (record old { core = x })
 loads_any old x config number word count step = record {
   word = word ∙ sym (ap (option_map (more config)) word);
   tally = refl;
@@ -124,13 +124,13 @@ loads_any old x config number word count step = record {
 -- where the core has a gate, a configuration whose load came out well is loaded
 pub next_loaded :
     (old : ServedCore) (x : Core) (was now : Known) (config : Configuration) (r : Result ℕ LoadFault) → old.accepted ≡ Some was → OnOk r (now ≡ more config was) → IfOk r (λ number. number ≡ length now.configs)
-    → OnOk r (AreSoundSince (is_arbitrary now) (trees_of now.configs)) → OnOk r (core_state.Reloads old.core config.tree x) → IfOk r (λ number. IsTaken old config number (record old { core = x; accepted = Some now }))
+    → OnOk r (AreSoundSince (is_arbitrary now) (trees_of now.configs)) → OnOk r (core_state.Reloads old.core config.tree x) → IfOk r (λ number. IsTakenUp old config number (record old { core = x; accepted = Some now }))
 next_loaded old x was now config (Ok number) word taken count sound step = loads_accepted old x was now config number word taken count sound step
 next_loaded old x was now config (Err fault) word taken count sound step = tt
 
 pub any_loaded :
     (old : ServedCore) (x : Core) (config : Configuration) (r : Result ℕ LoadFault) → old.accepted ≡ None → IfOk r (λ number. number ≡ x.generation) → OnOk r (core_state.Reloads old.core config.tree x)
-    → IfOk r (λ number. IsTaken old config number (record old { core = x }))
+    → IfOk r (λ number. IsTakenUp old config number (record old { core = x }))
 any_loaded old x config (Ok number) word count step = loads_any old x config number word count step
 any_loaded old x config (Err fault) word count step = tt
 
@@ -140,7 +140,7 @@ led_counting a tally opening past led = record { tree = led.tree; loaded = led.l
 
 -- servers got places after it
 with_places :
-    (old a : ServedCore) (config : Configuration) (number : ℕ) (tally : CoreTally) → IsTaken old config number a → MakesPlaces a.tally tally → IsLoaded old config number (record a { tally = tally })
+    (old a : ServedCore) (config : Configuration) (number : ℕ) (tally : CoreTally) → IsTakenUp old config number a → MakesPlaces a.tally tally → IsLoaded old config number (record a { tally = tally })
 with_places old a config number tally taken places = record {
   word = taken.word;
   tally = subst (λ (t : CoreTally). MakesPlaces t tally) taken.tally places;
@@ -153,12 +153,12 @@ with_places old a config number tally taken places = record {
 }
 
 places_after :
-    (old a b : ServedCore) (config : Configuration) (number : ℕ) → IsTaken old config number a → TakesPlaces a b → IsLoaded old config number b
+    (old a b : ServedCore) (config : Configuration) (number : ℕ) → IsTakenUp old config number a → TakesPlaces a b → IsLoaded old config number b
 places_after old a b config number taken takes = subst (IsLoaded old config number) (sym takes.rest) (with_places old a config number b.tally taken takes.places)
 
 -- so it is where the load came out well
 pub loaded_with_places :
-    (old a b : ServedCore) (config : Configuration) (r : Result ℕ LoadFault) → IfOk r (λ number. IsTaken old config number a) → OnOk r (TakesPlaces a b) → IfOk r (λ number. IsLoaded old config number b)
+    (old a b : ServedCore) (config : Configuration) (r : Result ℕ LoadFault) → IfOk r (λ number. IsTakenUp old config number a) → OnOk r (TakesPlaces a b) → IfOk r (λ number. IsLoaded old config number b)
 loaded_with_places old a b config (Ok number) taken takes = places_after old a b config number taken takes
 loaded_with_places old a b config (Err fault) taken takes = tt
 

@@ -12,7 +12,7 @@ use Rattle.fresh_runs.proofs.OverlapRuns.{runs}
 use Rattle.route_tree.specs.Route.{Route}
 use Rattle.route_tree.specs.Plan.{Plan}
 use Rattle.route_tree.specs.At.{tree_at}
-use Rattle.route_tree.specs.Word.{Word, tree_words}
+use Rattle.route_tree.specs.Word.{PlanWord, tree_words}
 use Rattle.core_proxy.specs.CoreState.{dialect, bars_of, version_by}
 use Rattle.core_accepted.specs.declared.served.ServedCore.{ServedCore}
 use Rattle.core_accepted.specs.Logs.{MayHaveLed}
@@ -65,6 +65,6 @@ led_owns served believes log led name tree Bars P by fewer all =
     own_from (tree_words led.beside.at) (λ n. words_by tree (name n)) (bars_of served.core led.beside) (λ n ask m client. Bars (name n) ask (name m) client) P
     (λ n ask calls reply from mine word.
     let its : tree_words (λ m key. tree_at (led.tree m) key) n ask calls reply from = subst (λ (at : ℕ → List ℕ → Plan). tree_words at n ask calls reply from) led.plain word in
-    (its.0, subst (λ (t : Route). Word (tree_at t ask.key) ask Client 0 calls (record { reply = reply; from = from })) (sym (by n mine)) its.1))
+    (its.0, subst (λ (t : Route). PlanWord (tree_at t ask.key) ask Client 0 calls (record { reply = reply; from = from })) (sym (by n mine)) its.1))
     fewer believes (run_of log) all
     (runs dialect (tree_words led.beside.at) (bars_of served.core led.beside) believes (version_by served.core.limits) log led.leads.follows)

@@ -8,7 +8,7 @@ use Rattle.gate_check.specs.Sound.{trees_of}
 use Rattle.gate_growth.specs.declared.ledger.book.Ledger.{Ledger}
 use Rattle.gate_growth.specs.Grown.{AreSoundSince}
 use Rattle.gate_growth.specs.Pages.{is_any}
-use Rattle.gate_growth.specs.Ledgers.{server_count, IsLedgerOf}
+use Rattle.gate_growth.specs.Ledgers.{count_of_known, IsLedgerOf}
 use Rattle.core_accepted.specs.declared.beginnings.Beginnings.{Beginnings}
 use Rattle.core_accepted.specs.contracts.beginnings.Beginnings as beginnings
 
@@ -37,7 +37,7 @@ more config known = record known { configs = known.configs ++ config ∷ [] }
 
 -- the ledger knows them; there is none before a second one is to follow the first
 abbrev pub KnowsThem : Known → Option Ledger → Type 0
-KnowsThem known (Some ledger) = IsLedgerOf (is_arbitrary known) (trees_of known.configs) ledger × (known.founders ≤ server_count ledger)
+KnowsThem known (Some ledger) = IsLedgerOf (is_arbitrary known) (trees_of known.configs) ledger × (known.founders ≤ count_of_known ledger)
 KnowsThem known None = (first : Configuration) × (known.configs ≡ first ∷ []) × (known.founders ≡ length first.servers)
 
 -- they are sound, and known to the ledger

@@ -52,8 +52,8 @@ pub record TakesConfiguration (Counts : CoreTally → CoreTally → Type 0) (old
   pub goes : (opening : ℕ → List ℕ → Option Item) (past : List (Entry dialect)) (led : MayHaveLed opening past old) → TakesOver opening past config.tree old new led
 
 -- it has, and nothing of the counts has changed
-abbrev pub IsTaken : ServedCore → Configuration → ℕ → ServedCore → Type 0
-IsTaken = TakesConfiguration (λ old new. new ≡ old)
+abbrev pub IsTakenUp : ServedCore → Configuration → ℕ → ServedCore → Type 0
+IsTakenUp = TakesConfiguration (λ old new. new ≡ old)
 
 -- servers got places among the counts, and nothing else has changed
 pub record TakesPlaces (old new : ServedCore) : Type 0 where

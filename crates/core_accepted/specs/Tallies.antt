@@ -45,8 +45,8 @@ lost_unless true unplaced = unplaced
 lost_unless false unplaced = one_more unplaced
 
 -- one more at this place, if it is among them; else one more is counted at none
-abbrev pub lost_at : ℕ → List ℕ → ℕ → ℕ
-lost_at place counts unplaced = lost_unless (nat_lt place (length counts)) unplaced
+abbrev pub unplaced_at : ℕ → List ℕ → ℕ → ℕ
+unplaced_at place counts unplaced = lost_unless (nat_lt place (length counts)) unplaced
 
 -- one more command of this operation has ended, with such a reply
 abbrev pub with_reply : ReplyKind → Op → CoreTally → CoreTally
@@ -60,7 +60,7 @@ with_note note tally = with_reply (reply_kind note) note.ask.op tally
 
 -- one more call was given out, of this server
 abbrev pub with_call : ℕ → CoreTally → CoreTally
-with_call server tally = record tally { calls = one_more tally.calls; calls_at = more_at server tally.calls_at; unplaced = lost_at server tally.calls_at tally.unplaced }
+with_call server tally = record tally { calls = one_more tally.calls; calls_at = more_at server tally.calls_at; unplaced = unplaced_at server tally.calls_at tally.unplaced }
 
 -- one more message was refused
 abbrev pub with_bad_message : CoreTally → CoreTally
@@ -84,8 +84,8 @@ is_answer Failed = false
 
 -- one more call was answered, or has failed, of this server, if that was found
 abbrev pub with_end : (answered : Bool) → (server : Option ℕ) → CoreTally → CoreTally
-with_end true (Some server) tally = record tally { answered = one_more tally.answered; answered_at = more_at server tally.answered_at; unplaced = lost_at server tally.answered_at tally.unplaced }
-with_end false (Some server) tally = record tally { failed = one_more tally.failed; failed_at = more_at server tally.failed_at; unplaced = lost_at server tally.failed_at tally.unplaced }
+with_end true (Some server) tally = record tally { answered = one_more tally.answered; answered_at = more_at server tally.answered_at; unplaced = unplaced_at server tally.answered_at tally.unplaced }
+with_end false (Some server) tally = record tally { failed = one_more tally.failed; failed_at = more_at server tally.failed_at; unplaced = unplaced_at server tally.failed_at tally.unplaced }
 with_end true None tally = record tally { answered = one_more tally.answered; unplaced = one_more tally.unplaced }
 with_end false None tally = record tally { failed = one_more tally.failed; unplaced = one_more tally.unplaced }
 

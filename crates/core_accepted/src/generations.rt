@@ -7,7 +7,7 @@ ghost use Rattle.gate_check.specs.Sound.{IsLast, trees_of};
 ghost use Rattle.gate_check.specs.Reload.{KeepsNumbers};
 ghost use Rattle.gate_growth.specs.Grown.{AreSoundSince};
 ghost use Rattle.gate_growth.specs.Pages.{AreOpened};
-ghost use Rattle.gate_growth.specs.Ledgers.{server_count, IsLedgerOf, IsUnsoundFor};
+ghost use Rattle.gate_growth.specs.Ledgers.{count_of_known, IsLedgerOf, IsUnsoundFor};
 ghost use Rattle.gate_growth.specs.declared.ledger.unsound.Unsound.TheVariants.{NoMemory};
 ghost use Rattle.route_json.specs.Configuration.{Configuration};
 ghost use Rattle.core_accepted.specs.Known.{Known, IsBookOf, is_arbitrary, first_of, more};
@@ -66,8 +66,8 @@ fn take_next(
     added: Beginning,
 ) -> Result<u32, Unsound>
     ensures taken { OnOk result (configs.new.items ≡ configs.old.items ++ config ∷ []) }
-    ensures followed { (arbitrary : ℕ → Bool) (trees : List Route) → IsLedgerOf arbitrary trees ledger.old → AreOpened arbitrary (server_count ledger.old) (length config.servers) added → MatchResult result (λ n. (n ≡ suc (length trees)) × IsLedgerOf arbitrary (trees ++ config.tree ∷ []) ledger.new) (IsUnsoundFor arbitrary trees config.tree) }
-    ensures servers { OnOk result (server_count ledger.new ≡ max (server_count ledger.old) (length config.servers)) }
+    ensures followed { (arbitrary : ℕ → Bool) (trees : List Route) → IsLedgerOf arbitrary trees ledger.old → AreOpened arbitrary (count_of_known ledger.old) (length config.servers) added → MatchResult result (λ n. (n ≡ suc (length trees)) × IsLedgerOf arbitrary (trees ++ config.tree ∷ []) ledger.new) (IsUnsoundFor arbitrary trees config.tree) }
+    ensures servers { OnOk result (count_of_known ledger.new ≡ max (count_of_known ledger.old) (length config.servers)) }
     ensures same { OnErr result ((ledger.new ≡ ledger.old) × (configs.new.items ≡ configs.old.items)) }
 {
     if configs.reserve(1).is_err() {

@@ -11,7 +11,7 @@ ghost use Rattle.core_proxy.specs.Polls.{Polls, PollFault};
 ghost use Rattle.core_proxy.specs.Settles.{FitsCall, asked, SettleFault};
 ghost use Rattle.core_accepted.specs.Logs.{IsNew, IsNewFrom, IsUnchecked, CountsBegun, LogsGoBy, fed};
 ghost use Rattle.core_accepted.specs.Tallies.{with_client, with_refusal, MakesPlaces, nothing_done};
-ghost use Rattle.core_accepted.specs.Loading.{IsTaken, TakesPlaces, IsLoaded, RefusesLoad};
+ghost use Rattle.core_accepted.specs.Loading.{IsTakenUp, TakesPlaces, IsLoaded, RefusesLoad};
 ghost use Rattle.core_accepted.specs.Results.{StaysCounting, PollGoes, PollStops, IsCallAt, TakesResult, SettleStops, IsSettled};
 
 use crate::beginnings::Beginnings;
@@ -293,7 +293,7 @@ impl ServedCore {
 
     // The same, but for the counts.
     fn take(&mut self, alloc: Global, config: Config) -> Result<u32, LoadFault>
-        ensures loaded { IfOk result (λ number. IsTaken self.old config number self.new) }
+        ensures loaded { IfOk result (λ number. IsTakenUp self.old config number self.new) }
         ensures refused { IfErr result (λ fault. RefusesLoad self.old config fault × (self.new ≡ self.old)) }
     {
         match &mut self.accepted {

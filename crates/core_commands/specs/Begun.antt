@@ -7,7 +7,7 @@ use Rattle.fresh_runs.specs.Overlap.{Owner}
 use Rattle.fresh_runs.specs.Calls.{Call}
 use Rattle.route_tree.specs.At.{tree_at}
 use Rattle.route_tree.specs.Route.{Route}
-use Rattle.route_tree.specs.Word.{Given, Word}
+use Rattle.route_tree.specs.Word.{Given, PlanWord}
 use Rattle.route_job.specs.Rest.{ask_under, origin_under}
 use Rattle.route_job.specs.Jobs.{server_of_pending, Comes}
 use Rattle.route_job.specs.declared.job.Job.{Job}
@@ -23,7 +23,7 @@ owner_by command = record { client = command.client; ask = command.ask }
 pub record IsBegun (tree : Route) (client : ℕ) (ask : Ask) (claim : Claim) (command : Command) : Type 0 where
   pub owner : owner_by command ≡ record { client = client; ask = ask }
   pub claim_is : command.claim ≡ claim
-  pub job : (calls : List Call) (given : Given) → Comes command.job calls given ↔ Word (tree_at tree ask.key) ask OfClient 0 calls given
+  pub job : (calls : List Call) (given : Given) → Comes command.job calls given ↔ PlanWord (tree_at tree ask.key) ask OfClient 0 calls given
   pub idle : command.is_out ≡ false
 
 -- one more fits without memory

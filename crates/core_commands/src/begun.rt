@@ -5,7 +5,7 @@ ghost use Rattle.mc_types.specs.declared.call.Origin.TheVariants.{Client as OfCl
 ghost use Rattle.fresh_runs.specs.Calls.{Call};
 ghost use Rattle.route_tree.specs.At.{tree_at};
 ghost use Rattle.route_tree.specs.Route.{IsTree};
-ghost use Rattle.route_tree.specs.Word.{Given, Word};
+ghost use Rattle.route_tree.specs.Word.{Given, PlanWord};
 ghost use Rattle.route_job.specs.Jobs.{Comes, IsCalling};
 ghost use Rattle.core_commands.specs.Begun.{IsBegun, IsTicketFor};
 
@@ -31,7 +31,7 @@ fn job_anew(
     tree: &Tree,
     ask: &SharedAsk,
 ) -> Result<HeldJob, AllocError>
-    ensures words { IfOk result (λ job. (calls : List Call) (given : Given) → Comes job calls given ↔ Word (tree_at tree.now ask.now.key) ask.now OfClient 0 calls given) }
+    ensures words { IfOk result (λ job. (calls : List Call) (given : Given) → Comes job calls given ↔ PlanWord (tree_at tree.now ask.now.key) ask.now OfClient 0 calls given) }
     ensures ask { IfOk result (λ job. job.ask ≡ ask.now) }
 {
     let ask = ask.copy()?;
@@ -46,7 +46,7 @@ fn job_of(
     tree: &Tree,
     ask: &SharedAsk,
 ) -> Result<HeldJob, AllocError>
-    ensures words { IfOk result (λ job. (calls : List Call) (given : Given) → Comes job calls given ↔ Word (tree_at tree.now ask.now.key) ask.now OfClient 0 calls given) }
+    ensures words { IfOk result (λ job. (calls : List Call) (given : Given) → Comes job calls given ↔ PlanWord (tree_at tree.now ask.now.key) ask.now OfClient 0 calls given) }
     ensures ask { IfOk result (λ job. job.ask ≡ ask.now) }
 {
     let Some(mut room) = room else {

@@ -5,7 +5,7 @@ ghost use Rattle.mc_types.specs.declared.call.Origin.TheVariants.{Client};
 ghost use Rattle.fresh_runs.specs.Calls.{Call as CallMade};
 ghost use Rattle.fresh_runs.specs.Single.{FitsOutcome};
 ghost use Rattle.route_tree.specs.At.{tree_at};
-ghost use Rattle.route_tree.specs.Word.{Given, Word};
+ghost use Rattle.route_tree.specs.Word.{Given, PlanWord};
 ghost use Rattle.route_job.specs.Given.{given_when_done};
 ghost use Rattle.route_job.specs.Jobs.{Comes, call_of, server_of_pending, IsBroken, JobShows, IsCalling, IsDone};
 
@@ -58,7 +58,7 @@ impl HeldJob {
 
     /// As `Job::begin_at_once`, in its room.
     pub fn begin_at_once(&mut self, tree: &Tree, ask: &SharedAsk) -> Result<bool, AllocError>
-        ensures words { IfOk result (λ begun. MatchBool begun ((calls : List CallMade) (given : Given) → Comes self.new calls given ↔ Word (tree_at tree.now ask.now.key) ask.now Client 0 calls given) (self.new ≡ self.old)) }
+        ensures words { IfOk result (λ begun. MatchBool begun ((calls : List CallMade) (given : Given) → Comes self.new calls given ↔ PlanWord (tree_at tree.now ask.now.key) ask.now Client 0 calls given) (self.new ≡ self.old)) }
         ensures ask { IfOk result (λ begun. begun ≡ true → self.new.ask ≡ ask.now) }
     {
         self.job.begin_at_once(tree, ask)

@@ -13,7 +13,7 @@ use Rattle.fresh_runs.specs.Overlap.{Front, Slot, Owner, Starts, is_last, is_las
 use Rattle.fresh_runs.specs.OverlapState.{Either, IsApartNow}
 use Rattle.fresh_runs.proofs.OverlapSteps.{walks_lead}
 use Rattle.route_tree.specs.At.{tree_at}
-use Rattle.route_tree.specs.Word.{Given, Word, tree_words}
+use Rattle.route_tree.specs.Word.{Given, PlanWord, tree_words}
 use Rattle.route_tree.proofs.Going.{each_ask_has_a_word}
 use Rattle.route_job.specs.Jobs.{Comes}
 use Rattle.route_job.proofs.Executing.{good_at}
@@ -114,7 +114,7 @@ module _ (old new : Core) (client : ℕ) (x y : Client) (part : Part dialect) (p
       (elim (nat_eq (old.number + 1) n) as (λ b. MayComeOf (cond b (Some command) (command_at old n)) calls reply from → Either b (tree_words beside.at (old.number + 1) part.ask calls reply from) (MayComeOf (command_at old n) calls reply from)) [
         | true ↦ λ l.
             let w = (r.job calls (record { reply = reply; from = from })).0 l in
-            (r.asks, subst (λ plan. Word plan part.ask OfClient 0 calls (record { reply = reply; from = from })) (sym (fits.trees (old.number + 1) part.ask.key just_above)) w)
+            (r.asks, subst (λ plan. PlanWord plan part.ask OfClient 0 calls (record { reply = reply; from = from })) (sym (fits.trees (old.number + 1) part.ask.key just_above)) w)
         | false ↦ λ l. l
       ]) (subst (λ o. MayComeOf o calls reply from) (r.commands n) l)
 
@@ -229,8 +229,8 @@ module _ (old new : Core) (client : ℕ) (x y : Client) (part : Part dialect) (p
       plan : tree_at old.tree command.ask.key ≡ beside.at (old.number + 1) command.ask.key
       plan = sym (fits.trees (old.number + 1) command.ask.key just_above)
 
-      comes : (calls : List Call) (given : Given) → Comes command.job calls given ↔ Word (tree_at old.tree command.ask.key) command.ask OfClient 0 calls given
-      comes = subst (λ (k : Ask). (calls : List Call) (given : Given) → Comes command.job calls given ↔ Word (tree_at old.tree k.key) k OfClient 0 calls given) (sym same) r.job
+      comes : (calls : List Call) (given : Given) → Comes command.job calls given ↔ PlanWord (tree_at old.tree command.ask.key) command.ask OfClient 0 calls given
+      comes = subst (λ (k : Ask). (calls : List Call) (given : Given) → Comes command.job calls given ↔ PlanWord (tree_at old.tree k.key) k OfClient 0 calls given) (sym same) r.job
 
       mine : IsOnItsWay old.limits.sharing (beside.at (old.number + 1) command.ask.key) command
       mine =

@@ -7,7 +7,7 @@ use Rattle.fresh_runs.specs.Calls.{Call}
 use Rattle.fresh_runs.specs.Fleet.{AreOn}
 use Rattle.fresh_runs.specs.Single.{FitsOutcome}
 use Rattle.route_tree.specs.Plan.{Plan}
-use Rattle.route_tree.specs.Word.{Given, Word}
+use Rattle.route_tree.specs.Word.{Given, PlanWord}
 use Rattle.route_tree.proofs.Going.{each_outcome_goes_on}
 use Rattle.route_tree.proofs.Servers.{calls_stay}
 use Rattle.route_job.specs.Rest.{ask_under}
@@ -50,11 +50,11 @@ on_after key (c ∷ before) call rest h = on_after key before call rest h.1
 
 module _ (sharing : Sharing) (plan : Plan) (a : Command) (to_come : IsOnItsWay sharing plan a) (calling : IsCalling a.job) where
   -- a word with the next call
-  in_word : (outcome : Outcome) × (rest : List Call) × (given : Given) × Word plan a.ask OfClient 0 (to_come.before ++ call_of a.job outcome ∷ rest) given
+  in_word : (outcome : Outcome) × (rest : List Call) × (given : Given) × PlanWord plan a.ask OfClient 0 (to_come.before ++ call_of a.job outcome ∷ rest) given
   in_word =
       let s = to_come.some in
       let k = begins a.job calling s.0 s.1 s.2 in
-      (k.0, k.1, s.1, subst (λ l. Word plan a.ask OfClient 0 (to_come.before ++ l) s.1) k.2 ((to_come.rest s.0 s.1).0 s.2))
+      (k.0, k.1, s.1, subst (λ l. PlanWord plan a.ask OfClient 0 (to_come.before ++ l) s.1) k.2 ((to_come.rest s.0 s.1).0 s.2))
 
   -- the next call is on the command's key
   pub call_key : (ask_under a.job.frames.items a.job.ask).key ≡ a.ask.key
@@ -78,8 +78,8 @@ module _ (sharing : Sharing) (plan : Plan) (a : Command) (to_come : IsOnItsWay s
         good = to_come.good;
         before = to_come.before ++ call ∷ [];
         rest = λ calls given. (
-          (λ c. subst (λ x. Word plan x OfClient 0 ((to_come.before ++ call ∷ []) ++ calls) given) (sym same) (subst (λ l. Word plan a.ask OfClient 0 l given) (sym (append_assoc to_come.before (call ∷ []) calls)) ((to_come.rest (call ∷ calls) given).0 ((rest calls given).0 c)))),
-          (λ w. (rest calls given).1 ((to_come.rest (call ∷ calls) given).1 (subst (λ l. Word plan a.ask OfClient 0 l given) (append_assoc to_come.before (call ∷ []) calls) (subst (λ x. Word plan x OfClient 0 ((to_come.before ++ call ∷ []) ++ calls) given) same w)))),
+          (λ c. subst (λ x. PlanWord plan x OfClient 0 ((to_come.before ++ call ∷ []) ++ calls) given) (sym same) (subst (λ l. PlanWord plan a.ask OfClient 0 l given) (sym (append_assoc to_come.before (call ∷ []) calls)) ((to_come.rest (call ∷ calls) given).0 ((rest calls given).0 c)))),
+          (λ w. (rest calls given).1 ((to_come.rest (call ∷ calls) given).1 (subst (λ l. PlanWord plan a.ask OfClient 0 l given) (append_assoc to_come.before (call ∷ []) calls) (subst (λ x. PlanWord plan x OfClient 0 ((to_come.before ++ call ∷ []) ++ calls) given) same w)))),
         );
         some = (r.0, r.1, (rest r.0 r.1).1 r.2);
       }

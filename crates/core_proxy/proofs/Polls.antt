@@ -15,7 +15,7 @@ use Rattle.fresh_runs.specs.Log.{Part}
 use Rattle.fresh_runs.proofs.OverlapSteps.{walks_lead}
 use Rattle.route_tree.specs.At.{tree_at}
 use Rattle.route_tree.specs.Route.{IsTree}
-use Rattle.route_tree.specs.Word.{Given, Word, tree_words}
+use Rattle.route_tree.specs.Word.{Given, PlanWord, tree_words}
 use Rattle.route_job.specs.Jobs.{server_of_pending, Comes, IsCalling, IsDone}
 use Rattle.route_job.specs.Rest.{ask_under, origin_under}
 use Rattle.wire_stream.specs.declared.connection.front.Passed.{Passed}
@@ -184,7 +184,7 @@ begun_goes old new client x y ask command was is others served first apart claim
             owner = begun.owner ∙ (λ i. record { client = client; ask = back i });
             asks = subst IsAsk back asks;
             tree_is = tree_is;
-            job = subst (λ (a : Ask). (calls : List Call) (given : Given) → Comes command.job calls given ↔ Word (tree_at old.tree a.key) a OfClient 0 calls given) back begun.job;
+            job = subst (λ (a : Ask). (calls : List Call) (given : Given) → Comes command.job calls given ↔ PlanWord (tree_at old.tree a.key) a OfClient 0 calls given) back begun.job;
             idle = begun.idle;
             commands = commands;
             tree = tree;

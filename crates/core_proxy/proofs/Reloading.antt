@@ -6,7 +6,7 @@ use Rattle.fresh_runs.specs.OverlapLaws.{WordsAreKept, AreKeptBars}
 use Rattle.fresh_runs.proofs.OverlapReload.{reloads}
 use Rattle.route_tree.specs.Route.{Route}
 use Rattle.route_tree.specs.Plan.{Plan}
-use Rattle.route_tree.specs.Word.{Word, tree_words}
+use Rattle.route_tree.specs.Word.{PlanWord, tree_words}
 use Rattle.core_commands.specs.declared.command.Command.{Command}
 use Rattle.core_proxy.specs.declared.proxy.Core.{Core}
 use Rattle.core_proxy.specs.Claims.{copies_by, bars_by}
@@ -16,7 +16,7 @@ use Rattle.core_commands.proofs.Commands.{no_command}
 -- the words of commands that have begun stay
 words_stay : (old : Core) (tree : Route) (beside : Beside) (at : ℕ → List ℕ → Plan) → IsTakenOver old tree beside at → WordsAreKept (old.number + 1) (tree_words beside.at) (tree_words at)
 words_stay old tree beside at taken n ask calls reply from lt word =
-    (word.0, subst (λ plan. Word plan ask OfClient 0 calls (record { reply = reply; from = from })) (sym (taken.begun n ask.key (let l = lt in omega (arith, l)))) word.1)
+    (word.0, subst (λ plan. PlanWord plan ask OfClient 0 calls (record { reply = reply; from = from })) (sym (taken.begun n ask.key (let l = lt in omega (arith, l)))) word.1)
 
 -- the bars between commands that have begun stay
 bars_stay : (old : Core) (tree : Route) (beside : Beside) (at : ℕ → List ℕ → Plan) → IsTakenOver old tree beside at → AreKeptBars (old.number + 1) (bars_of old beside) (bars_by old.limits.sharing at)

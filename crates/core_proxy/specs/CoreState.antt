@@ -14,8 +14,8 @@ use Rattle.wire_parts.specs.Stream.{Place}
 use Rattle.wire_stream.specs.Version.{version_of}
 use Rattle.route_tree.specs.At.{tree_at}
 use Rattle.route_tree.specs.Route.{Route}
-use Rattle.route_tree.specs.Plan.{Plan, IsGood}
-use Rattle.route_tree.specs.Word.{Given, Word, tree_words}
+use Rattle.route_tree.specs.Plan.{Plan, IsGoodPlan}
+use Rattle.route_tree.specs.Word.{Given, PlanWord, tree_words}
 use Rattle.route_job.specs.Jobs.{Comes}
 use Rattle.route_job.specs.Rest.{ask_under, origin_under}
 use Rattle.route_job.specs.Jobs.{server_of_pending}
@@ -111,9 +111,9 @@ IsHeld n command (Some x) slots = x.dropped ≡ false → (slot : Slot dialect) 
 -- a command claims of its key what it does by this plain tree; after some calls, what may still come of it is what is left of the words of that tree, of which each outcome goes on
 pub record IsOnItsWay (sharing : Sharing) (plan : Plan) (command : Command) : Type 0 where
   pub claim : command.claim ≡ claim_by sharing command.ask.op plan
-  pub good : IsGood plan
+  pub good : IsGoodPlan plan
   pub before : List Call
-  pub rest : (calls : List Call) (given : Given) → Comes command.job calls given ↔ Word plan command.ask OfClient 0 (before ++ calls) given
+  pub rest : (calls : List Call) (given : Given) → Comes command.job calls given ↔ PlanWord plan command.ask OfClient 0 (before ++ calls) given
   pub some : (calls : List Call) × (given : Given) × Comes command.job calls given
 
 -- the ticket at this server of a command of this number

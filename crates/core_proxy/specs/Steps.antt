@@ -15,7 +15,7 @@ use Rattle.fresh_runs.specs.OverlapState.{Leads, found_after}
 use Rattle.wire_parts.specs.Stream.{Place}
 use Rattle.route_tree.specs.At.{tree_at}
 use Rattle.route_tree.specs.Route.{IsTree}
-use Rattle.route_tree.specs.Word.{Given, Word, tree_words}
+use Rattle.route_tree.specs.Word.{Given, PlanWord, tree_words}
 use Rattle.route_job.specs.Rest.{ask_under, origin_under}
 use Rattle.route_job.specs.Jobs.{server_of_pending, call_of, Comes, IsCalling}
 use Rattle.core_client.specs.declared.client.Pending.{Pending}
@@ -60,7 +60,7 @@ pub record BeginsCommand (old new : Core) (client : ℕ) (x y : Client) (part : 
   pub claim : command.claim ≡ claim_by old.limits.sharing part.ask.op (tree_at old.tree part.ask.key)
   pub asks : IsAsk part.ask
   pub tree_is : IsTree old.tree
-  pub job : (calls : List Call) (given : Given) → Comes command.job calls given ↔ Word (tree_at old.tree part.ask.key) part.ask OfClient 0 calls given
+  pub job : (calls : List Call) (given : Given) → Comes command.job calls given ↔ PlanWord (tree_at old.tree part.ask.key) part.ask OfClient 0 calls given
   pub idle : command.is_out ≡ false
   pub commands : (n : ℕ) → command_at new n ≡ (if nat_eq (old.number + 1) n then Some command else command_at old n)
   pub tree : new.tree ≡ old.tree

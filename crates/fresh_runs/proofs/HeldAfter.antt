@@ -3,7 +3,7 @@ use Rattle.std.proofs.Common.{◌≡◌, ℕ, Bool, true, false, cond, List, ◌
 use Rattle.mc_types.specs.declared.ask.Ask.{Ask}
 use Rattle.mc_types.specs.Items.{Item}
 use Rattle.fresh_runs.specs.Life.{Mark, held_in}
-use Rattle.fresh_runs.specs.Calls.{End, Read, Unread, Never, marks_of, after_end}
+use Rattle.fresh_runs.specs.Calls.{End, Read, Unread, Never, marks_of, left_after_end}
 use Rattle.fresh_runs.specs.Run.{Event, Begins, Calls, Replies, Breaks, Turns, Restarts, life_of, held, after_event}
 
 cond_ap : {A B : Type 0} (f : A → B) (b : Bool) (x y : A) → f (cond b x y) ≡ cond b (f x) (f y)
@@ -15,7 +15,7 @@ cond_same true x = refl
 cond_same false x = refl
 
 module _ (opening : ℕ → List ℕ → Option Item) where
-  held_marks : (o : Option Item) (ask : Ask) (end : End) (life : List Mark) (k : List ℕ) → held_in o (marks_of ask end ++ life) k ≡ cond (bytes_eq ask.key k) (after_end ask end (held_in o life k)) (held_in o life k)
+  held_marks : (o : Option Item) (ask : Ask) (end : End) (life : List Mark) (k : List ℕ) → held_in o (marks_of ask end ++ life) k ≡ cond (bytes_eq ask.key k) (left_after_end ask end (held_in o life k)) (held_in o life k)
   held_marks o ask (Read stamp answer spaces) life k = refl
   held_marks o ask (Unread stamp answer spaces) life k = refl
   held_marks o ask Never life k = cond_same (bytes_eq ask.key k) (held_in o life k)
@@ -36,6 +36,6 @@ module _ (opening : ℕ → List ℕ → Option Item) where
   event_same (Begins number ask) g h s k is = is
   event_same (Replies number key reply from) g h s k is = is
   event_same (Breaks number) g h s k is = is
-  event_same (Calls number server ask origin end) g h s k is = ap (λ o. cond (nat_eq server s) (cond (bytes_eq ask.key k) (after_end ask end o) o) o) is
+  event_same (Calls number server ask origin end) g h s k is = ap (λ o. cond (nat_eq server s) (cond (bytes_eq ask.key k) (left_after_end ask end o) o) o) is
   event_same (Turns server key turned) g h s k is = ap (λ o. cond (nat_eq server s) (cond (bytes_eq key k) turned o) o) is
   event_same (Restarts server) g h s k is = ap (λ o. cond (nat_eq server s) None o) is

@@ -38,10 +38,10 @@ marks_of ask (Unread stamp answer spaces) = Applied ask stamp answer spaces ∷ 
 marks_of ask Never = []
 
 -- what the call of an ask leaves of its key
-abbrev pub after_end : Ask → End → Option Item → Option Item
-after_end ask (Read stamp answer spaces) before = after_call ask stamp answer spaces before
-after_end ask (Unread stamp answer spaces) before = after_call ask stamp answer spaces before
-after_end ask Never before = before
+abbrev pub left_after_end : Ask → End → Option Item → Option Item
+left_after_end ask (Read stamp answer spaces) before = after_call ask stamp answer spaces before
+left_after_end ask (Unread stamp answer spaces) before = after_call ask stamp answer spaces before
+left_after_end ask Never before = before
 
 -- what was there before the run is older than every command
 abbrev pub OpensAtZero : (ℕ → List ℕ → Option Item) → Type 0

@@ -9,7 +9,7 @@ use Rattle.mc_types.specs.Acknowledged.{Acknowledges}
 use Rattle.mc_types.specs.Items.{Item}
 use Rattle.mc_types.specs.Agree.{AnswerAgrees}
 use Rattle.fresh_runs.specs.Life.{Mark, Turned, Restarted, held_in}
-use Rattle.fresh_runs.specs.Calls.{Call, End, Read, Unread, Never, outcome_of, marks_of, after_end}
+use Rattle.fresh_runs.specs.Calls.{Call, End, Read, Unread, Never, outcome_of, marks_of, left_after_end}
 
 -- one event. A command ends with its reply, or is broken off: no call and no reply comes after that
 pub data Event : Type 0 where
@@ -232,7 +232,7 @@ abbrev pub after_event : Event → (ℕ → List ℕ → Option Item) → ℕ �
 after_event (Begins number ask) h s k = h s k
 after_event (Replies number key reply from) h s k = h s k
 after_event (Breaks number) h s k = h s k
-after_event (Calls number server ask origin end) h s k = if nat_eq server s then (if bytes_eq ask.key k then after_end ask end (h s k) else h s k) else h s k
+after_event (Calls number server ask origin end) h s k = if nat_eq server s then (if bytes_eq ask.key k then left_after_end ask end (h s k) else h s k) else h s k
 after_event (Turns server key turned) h s k = if nat_eq server s then (if bytes_eq key k then turned else h s k) else h s k
 after_event (Restarts server) h s k = if nat_eq server s then None else h s k
 

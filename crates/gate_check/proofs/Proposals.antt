@@ -3,7 +3,7 @@ use Rattle.std.proofs.Common.{◌≡◌, zero, suc, ◌+◌, length, ℕ, ◌<�
 use Rattle.std.specs.Prelude.{insert, slice_index_or, if◌then◌else◌}
 use Rattle.std.proofs.lemmas.Bool.{eqb-true, eq-eqb, leb-true}
 use Rattle.route_tree.specs.Each.{Each, IsIn}
-use Rattle.route_tree.specs.Plan.{IsGood}
+use Rattle.route_tree.specs.Plan.{IsGoodPlan}
 use Rattle.route_tree.proofs.Parts.{each_weaker}
 use Rattle.gate_check.specs.Texts.{place_after_it}
 use Rattle.gate_check.specs.Valid.{IsRising}
@@ -113,7 +113,7 @@ has_with (x ∷ xs) s t =
 
 -- ---- what is proposed
 
-pub valid_if_covered : (text : List ℕ) (tree : Route) (residue : ℕ) (row : List ℕ) → IsGood (plain_for residue text tree) → IsRowOf residue (taken_pools text tree) row → IsValidIfCovered (plain_for residue text tree) row
+pub valid_if_covered : (text : List ℕ) (tree : Route) (residue : ℕ) (row : List ℕ) → IsGoodPlan (plain_for residue text tree) → IsRowOf residue (taken_pools text tree) row → IsValidIfCovered (plain_for residue text tree) row
 valid_if_covered text tree residue row good h covers =
     let plain = plain_for residue text tree in
     let those : (s : ℕ) → has row s ≡ is_taken plain s = λ s. h.holds s ∙ pools_are_taken text residue s tree in

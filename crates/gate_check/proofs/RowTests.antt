@@ -3,7 +3,7 @@ use Rattle.std.proofs.Common.{◌≡◌, ◌↔◌, IsTrue, ℕ, ◌<◌, Bool, 
 use Rattle.std.proofs.lemmas.Bool.{eqb-true, eq-eqb, leb-true, le-leb}
 use Rattle.route_tree.specs.At.{plain_for}
 use Rattle.route_tree.specs.Each.{Each, IsIn}
-use Rattle.route_tree.specs.Plan.{Plan, IsGood}
+use Rattle.route_tree.specs.Plan.{Plan, IsGoodPlan}
 use Rattle.route_tree.specs.Route.{Route, IsTree}
 use Rattle.route_tree.proofs.PlainTrees.{plan_plain}
 use Rattle.route_tree.proofs.Parts.{each_weaker}
@@ -66,7 +66,7 @@ holding row (x ∷ xs) f = both (has row x) _ (in_has row x (f x (inl refl))) (h
 
 -- ---- the row of what is taken
 
-pub good_plain : (tree : Route) (text : List ℕ) (residue : ℕ) → IsTree tree → IsGood (plain_for residue text tree)
+pub good_plain : (tree : Route) (text : List ℕ) (residue : ℕ) → IsTree tree → IsGoodPlan (plain_for residue text tree)
 good_plain tree text residue is = (plan_plain residue text tree is).good
 
 pub taken_row : (text : List ℕ) (tree : Route) (residue : ℕ) (row : List ℕ) → IsRowOf residue (taken_pools text tree) row → IsTakenRow (plain_for residue text tree) row
@@ -75,13 +75,13 @@ taken_row text tree residue row h = record {
   holds = λ s. h.holds s ∙ pools_are_taken text residue s tree;
 }
 
-holds_those : (plain : Plan) → IsGood plain → (row : List ℕ) → ((s : ℕ) → has row s ≡ is_taken plain s) → HoldsTaken plain row
+holds_those : (plain : Plan) → IsGoodPlan plain → (row : List ℕ) → ((s : ℕ) → has row s ≡ is_taken plain s) → HoldsTaken plain row
 holds_those plain good row those op taking s h = has_in row s (those s ∙ takes plain good op s taking ((taken_is_exact plain op s good).1 h))
 
-pub holds_what_is_taken : (plain : Plan) → IsGood plain → (row : List ℕ) → IsTakenRow plain row → HoldsTaken plain row
+pub holds_what_is_taken : (plain : Plan) → IsGoodPlan plain → (row : List ℕ) → IsTakenRow plain row → HoldsTaken plain row
 holds_what_is_taken plain good row t = holds_those plain good row t.holds
 
-module _ (plain : Plan) (good : IsGood plain) where
+module _ (plain : Plan) (good : IsGoodPlan plain) where
   clear_of : (row : List ℕ) → all_cleared plain row ≡ true → (s : ℕ) → IsIn s row → (kind : Deleting) → Clears plain kind s
   clear_of [] h s i kind = absurd i
   clear_of (x ∷ xs) h s i kind =
@@ -113,13 +113,13 @@ cleared_covers text residue earlier later is was h op taking s takes_it kind =
 
 -- where there is no gap, all that is taken is cleared
 
-pub covers_cleared : (earlier later : Plan) → IsGood earlier → IsGood later → (row : List ℕ) → IsTakenRow later row → Covers earlier later → all_cleared earlier row ≡ true
+pub covers_cleared : (earlier later : Plan) → IsGoodPlan earlier → IsGoodPlan later → (row : List ℕ) → IsTakenRow later row → Covers earlier later → all_cleared earlier row ≡ true
 covers_cleared earlier later good is row t covers =
     of_clear earlier good row (λ s i kind. (let x = taken_takes later is s (sym (t.holds s) ∙ in_has row s i) in covers x.0 x.1 s x.2 kind))
 
 -- ---- the tests of a row
 
-module _ (plain : Plan) (good : IsGood plain) (taken : List ℕ) (t : IsTakenRow plain taken) where
+module _ (plain : Plan) (good : IsGoodPlan plain) (taken : List ℕ) (t : IsTakenRow plain taken) where
   pub valid_of : (row : List ℕ) → (rises row && holds_all row taken && all_cleared plain row) ≡ true → IsValidRow plain row
   valid_of row h =
       let p = both_split (rises row && holds_all row taken) (all_cleared plain row) h in

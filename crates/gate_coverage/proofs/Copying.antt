@@ -12,11 +12,11 @@ use Rattle.fresh_runs.specs.Cover.{IsCallOf}
 use Rattle.route_tree.specs.Each.{Each}
 use Rattle.route_tree.specs.Operation.{same_op}
 use Rattle.route_tree.specs.Plan.{Plan, Plans, PlanPolicies, Server, Null, Failing, AllSync, Failover, MissFailover, WarmUp, ByOperation, End, More, Otherwise, Policy}
-use Rattle.route_tree.specs.Word.{Given, rank, plain_get, refill, is_plain_get, Word, WordOfAll, WordOfFirst, WordOfHead, WordOfPolicy, AfterRefill, Refilled, AfterWarm, AfterCold, WarmUpWord}
+use Rattle.route_tree.specs.Word.{Given, rank, plain_get, refill, is_plain_get, PlanWord, WordOfAll, WordOfFirst, WordOfHead, WordOfPolicy, AfterRefill, Refilled, AfterWarm, AfterCold, WarmUpWord}
 use Rattle.route_tree.proofs.Parts.{each_at, match_bool}
 use Rattle.route_tree.proofs.Words.{IsOwn, own_calls}
 use Rattle.gate_coverage.specs.Cover.{IsTaking, Takes}
-use Rattle.gate_coverage.specs.Computed.{asks_get, is_taking, fails, shown, adds, adds_some, adds_first, adds_head, adds_policy, copied, copied_some, copied_first, copied_policy, takes_server}
+use Rattle.gate_coverage.specs.Computed.{asks_get, is_taking, can_fail, shown, adds, adds_some, adds_first, adds_head, adds_policy, copied, copied_some, copied_first, copied_policy, takes_server}
 use Rattle.gate_coverage.proofs.Choices.{both, either_left, either_right, bool_is, if_true, if_false, true_match, false_match, only_get, only_other, is_get_of, HasCall, has_front, has_back, has_weaker, get_either, AreSome, some_either, some_at}
 use Rattle.gate_coverage.proofs.Failing.{word_fails}
 use Rattle.gate_coverage.proofs.Covering.{from_takes, copy_is_get, taking_get}
@@ -28,7 +28,7 @@ module _ (ask : Ask) (origin : Origin) (op : ask.op ≡ Add) where
   add_is_other e = cc
 
   mutual
-    pub word_adds : (p : Plan) (b : ℕ) (calls : List Call) (given : Given) → Word p ask origin b calls given → AreSome calls → adds p ≡ true
+    pub word_adds : (p : Plan) (b : ℕ) (calls : List Call) (given : Given) → PlanWord p ask origin b calls given → AreSome calls → adds p ≡ true
     word_adds (Server t) b calls given w h = refl
     word_adds Null b calls given w h = absurd (subst AreSome w.0 h)
     word_adds Failing b calls given w h = absurd (subst AreSome w.0 h)
@@ -49,7 +49,7 @@ module _ (ask : Ask) (origin : Origin) (op : ask.op ≡ Add) where
     first_adds (More p ps) b calls given (inr w) h =
         ⊎_elim
         (λ f. either_left (adds p) _ (word_adds p b w.0 w.3 w.4 f))
-        (λ r. either_right (adds p) _ (both (fails Add p) (adds_first ps) (subst (λ o. fails o p ≡ true) op (word_fails p ask origin b w.0 w.3 w.4 w.5)) (first_adds ps (b + length w.0) w.1 given w.6 r)))
+        (λ r. either_right (adds p) _ (both (can_fail Add p) (adds_first ps) (subst (λ o. can_fail o p ≡ true) op (word_fails p ask origin b w.0 w.3 w.4 w.5)) (first_adds ps (b + length w.0) w.1 given w.6 r)))
         (some_either w.0 w.1 (subst AreSome w.2 h))
 
     head_adds : (ps : Plans) (b : ℕ) (calls : List Call) (given : Given) → WordOfHead ps ask origin b calls given → AreSome calls → adds_head ps ≡ true
@@ -121,7 +121,7 @@ module _ (ask : Ask) (cold : ℕ → List Call → Given → Type 0) (warm : ℕ
   warm_up_copies b calls given w = subst (λ l. CopiesIn f b l l) (sym w.2) (copies_both f b w.0 w.1 (in_cold b w.0 w.3 w.4) (after_cold_copies (b + length w.0) w.1 w.3 given (rank w.3) w.5))
 
 -- the calls of a refill copy what the warm side was answered
-refill_copies : (cold warm : Plan) (e : ℕ) (ask : Ask) (b i : ℕ) (c2 c3 : List Call) (g stored : Given) → Word warm (plain_get ask) Client b c2 g → g.from ≡ Some i → Word cold (refill ask g.reply e) (CopyOf i) (b + length c2) c3 stored → CopiesIn (λ s. copied Get s (WarmUp cold warm e)) b c2 c3
+refill_copies : (cold warm : Plan) (e : ℕ) (ask : Ask) (b i : ℕ) (c2 c3 : List Call) (g stored : Given) → PlanWord warm (plain_get ask) Client b c2 g → g.from ≡ Some i → PlanWord cold (refill ask g.reply e) (CopyOf i) (b + length c2) c3 stored → CopiesIn (λ s. copied Get s (WarmUp cold warm e)) b c2 c3
 refill_copies cold warm e ask b i c2 c3 g stored v is w j k copy at origin =
     let add = refill_adds ask g.reply e in
     let same : k ≡ i = ⊎_elim (λ own. (let o = own.1 in cc)) (λ get. absurd (cc)) (each_at (IsOwn (refill ask g.reply e) (CopyOf i)) c3 j copy (own_calls cold (refill ask g.reply e) (CopyOf i) (b + length c2) c3 stored w) at) in
@@ -136,7 +136,7 @@ own_only : (b : ℕ) (calls : List Call) → Each (λ (c : Call). c.origin ≡ C
 own_only b calls own j k copy at is = let o = each_at (λ (c : Call). c.origin ≡ Client) calls j copy own at in absurd (cc)
 
 mutual
-  pub word_copies : (p : Plan) (ask : Ask) (b : ℕ) (calls : List Call) (given : Given) → ask.op ≡ Get → Word p ask Client b calls given → CopiesIn (λ s. copied Get s p) b calls calls
+  pub word_copies : (p : Plan) (ask : Ask) (b : ℕ) (calls : List Call) (given : Given) → ask.op ≡ Get → PlanWord p ask Client b calls given → CopiesIn (λ s. copied Get s p) b calls calls
   word_copies (Server t) ask b calls given op w = own_only b calls (subst (Each (λ (c : Call). c.origin ≡ Client)) (sym w.2) (refl, tt))
   word_copies Null ask b calls given op w = no_copies (λ s. false) b calls calls w.0
   word_copies Failing ask b calls given op w = no_copies (λ s. false) b calls calls w.0
@@ -144,7 +144,7 @@ mutual
   word_copies (Failover ps) ask b calls given op w = first_copies ps ask b calls given op w
   word_copies (MissFailover ps) ask b calls given op w = some_copies ps ask b calls given op (only_get ask.op _ _ op w)
   word_copies (WarmUp cold warm e) ask b calls given op w =
-      warm_up_copies ask (Word cold ask Client) (Word warm (plain_get ask) Client) (λ hit i. Word cold (refill ask hit e) (CopyOf i)) (λ s. copied Get s (WarmUp cold warm e))
+      warm_up_copies ask (PlanWord cold ask Client) (PlanWord warm (plain_get ask) Client) (λ hit i. PlanWord cold (refill ask hit e) (CopyOf i)) (λ s. copied Get s (WarmUp cold warm e))
       (λ b' c' g' w'. copies_weaker (λ s. copied Get s cold) (λ s. copied Get s (WarmUp cold warm e)) b' c' c' (λ s h. either_left (copied Get s cold) _ h) (word_copies cold ask b' c' g' op w'))
       (λ b' c' g' w'. copies_weaker (λ s. copied Get s warm) (λ s. copied Get s (WarmUp cold warm e)) b' c' c' (λ s h. either_right (copied Get s cold) _ (either_left (copied Get s warm) _ h)) (word_copies warm (plain_get ask) b' c' g' refl w'))
       (λ b' i c2 c3 g' st v' is' w'. refill_copies cold warm e ask b' i c2 c3 g' st v' is' w')
@@ -163,11 +163,11 @@ mutual
   first_copies End ask b calls given op w = absurd w
   first_copies (More p ps) ask b calls given op (inl w) = copies_weaker (λ s. copied Get s p) (λ s. copied_first Get s (More p ps)) b calls calls (λ s h. either_left (copied Get s p) _ h) (word_copies p ask b calls given op w.0)
   first_copies (More p ps) ask b calls given op (inr w) =
-      let on : fails Get p ≡ true = subst (λ o. fails o p ≡ true) op (word_fails p ask Client b w.0 w.3 w.4 w.5) in
+      let on : can_fail Get p ≡ true = subst (λ o. can_fail o p ≡ true) op (word_fails p ask Client b w.0 w.3 w.4 w.5) in
       subst (λ l. CopiesIn (λ s. copied_first Get s (More p ps)) b l l) (sym w.2)
       (copies_both (λ s. copied_first Get s (More p ps)) b w.0 w.1
       (copies_weaker (λ s. copied Get s p) (λ s. copied_first Get s (More p ps)) b w.0 w.0 (λ s h. either_left (copied Get s p) _ h) (word_copies p ask b w.0 w.3 op w.4))
-      (copies_weaker (λ s. copied_first Get s ps) (λ s. copied_first Get s (More p ps)) (b + length w.0) w.1 w.1 (λ s h. either_right (copied Get s p) _ (both (fails Get p) _ on h)) (first_copies ps ask (b + length w.0) w.1 given op w.6)))
+      (copies_weaker (λ s. copied_first Get s ps) (λ s. copied_first Get s (More p ps)) (b + length w.0) w.1 w.1 (λ s h. either_right (copied Get s p) _ (both (can_fail Get p) _ on h)) (first_copies ps ask (b + length w.0) w.1 given op w.6)))
 
   some_copies : (ps : Plans) (ask : Ask) (b : ℕ) (calls : List Call) (given : Given) → ask.op ≡ Get → WordOfFirst ps 1 ask Client b calls given → CopiesIn (λ s. copied_some Get s ps) b calls calls
   some_copies End ask b calls given op w = absurd w

@@ -25,7 +25,7 @@ use Rattle.fresh_runs.specs.Single.{FitsOutcome}
 use Rattle.route_tree.specs.Each.{Each}
 use Rattle.route_tree.specs.Operation.{same_op}
 use Rattle.route_tree.specs.Plan.{Plan, Plans, PlanPolicies, Server, Null, Failing, AllSync, Failover, MissFailover, WarmUp, ByOperation, End, More, Otherwise, Policy}
-use Rattle.route_tree.specs.Word.{Given, given_by, Word, WordOfAll, WordOfFirst, WordOfHead, WordOfPolicy}
+use Rattle.route_tree.specs.Word.{Given, given_by, PlanWord, WordOfAll, WordOfFirst, WordOfHead, WordOfPolicy}
 use Rattle.route_tree.proofs.Parts.{each_at, if_get, match_bool, worst_is}
 use Rattle.route_tree.proofs.Words.{IsOwn, own_calls}
 use Rattle.gate_coverage.specs.declared.deleting.Deleting.{Deleting}
@@ -151,7 +151,7 @@ pub taking_get : (op : Op) → op ≡ Get → IsTaking op
 taking_get op e = subst IsTaking (sym e) tt
 
 mutual
-  pub from_takes : (p : Plan) (ask : Ask) (origin : Origin) (b : ℕ) (calls : List Call) (given : Given) → IsAsk ask → Word p ask origin b calls given → FromTakes ask given
+  pub from_takes : (p : Plan) (ask : Ask) (origin : Origin) (b : ℕ) (calls : List Call) (given : Given) → IsAsk ask → PlanWord p ask origin b calls given → FromTakes ask given
   from_takes (Server s) ask origin b calls given is w = subst (FromTakes ask) (sym w.3) (from_outcome ask b w.0 is w.1)
   from_takes Null ask origin b calls given is w = subst (FromTakes ask) (sym w.1) (λ i e. absurd (cc))
   from_takes Failing ask origin b calls given is w = subst (FromTakes ask) (sym w.1) (λ i e. absurd (cc))
@@ -183,7 +183,7 @@ mutual
       match_bool (same_op op ask.op) _ _ (FromTakes ask given) w (λ h. from_takes p ask origin b calls given is h) (λ h. from_policy rest ask origin b calls given is h)
 
 -- a call that copies what another was answered belongs to a get
-pub copy_is_get : (p : Plan) (ask : Ask) (b : ℕ) (calls : List Call) (given : Given) → Word p ask Client b calls given → (j k : ℕ) (copy : Call) → slice_get calls j ≡ Some copy → copy.origin ≡ CopyOf k → ask.op ≡ Get
+pub copy_is_get : (p : Plan) (ask : Ask) (b : ℕ) (calls : List Call) (given : Given) → PlanWord p ask Client b calls given → (j k : ℕ) (copy : Call) → slice_get calls j ≡ Some copy → copy.origin ≡ CopyOf k → ask.op ≡ Get
 copy_is_get p ask b calls given w j k copy at is =
     ⊎_elim (λ o. absurd (let e = o.1 in cc)) (λ e. e) (each_at (IsOwn ask Client) calls j copy (own_calls p ask Client b calls given w) at)
 
@@ -192,7 +192,7 @@ pub covering_is_covered : CoveringIsCovered
 covering_is_covered at sound = record {
   covered = λ n m delete ask lt op key calls reply from word server takes calls' reply' from' word' ack.
       let given : Given = record { reply = reply; from = from } in
-      let w : Word (at m delete.key) ask Client 0 calls given = subst (λ k. Word (at m k) ask Client 0 calls given) key word.1 in
+      let w : PlanWord (at m delete.key) ask Client 0 calls given = subst (λ k. PlanWord (at m k) ask Client 0 calls given) key word.1 in
       let taking : IsTaking ask.op =
       ⊎_elim
       (λ f. from_takes (at m delete.key) ask Client 0 calls given word.0 w takes.0 f)

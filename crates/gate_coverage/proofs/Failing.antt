@@ -12,9 +12,9 @@ use Rattle.mc_types.specs.Rank.{rank_of, IsWorst, NoneAbove}
 use Rattle.fresh_runs.specs.Calls.{Call}
 use Rattle.route_tree.specs.Operation.{same_op}
 use Rattle.route_tree.specs.Plan.{Plan, Plans, PlanPolicies, Server, Null, Failing, AllSync, Failover, MissFailover, WarmUp, ByOperation, End, More, Otherwise, Policy}
-use Rattle.route_tree.specs.Word.{Given, rank, null_reply, answer_of_nothing, plain_get, refill, is_plain_get, Word, WordOfAll, WordOfFirst, WordOfHead, WordOfPolicy, AfterRefill, Refilled, AfterWarm, AfterCold, WarmUpWord}
+use Rattle.route_tree.specs.Word.{Given, rank, null_reply, answer_of_nothing, plain_get, refill, is_plain_get, PlanWord, WordOfAll, WordOfFirst, WordOfHead, WordOfPolicy, AfterRefill, Refilled, AfterWarm, AfterCold, WarmUpWord}
 use Rattle.route_tree.proofs.Parts.{match_bool}
-use Rattle.gate_coverage.specs.Computed.{asks_get, fails, fails_some, fails_each, fails_last, fails_head, fails_policy, hits, hits_each, hits_first, hits_some, hits_head, hits_policy}
+use Rattle.gate_coverage.specs.Computed.{asks_get, can_fail, fails_some, fails_each, fails_last, fails_head, fails_policy, hits, hits_each, hits_first, hits_some, hits_head, hits_policy}
 use Rattle.gate_coverage.proofs.Choices.{both, either_left, either_right, bool_is, if_true, if_false, true_match, false_match, by_get, only_get, only_other, is_get_of, no_get_of}
 
 null_one : (d : Dialect) (op : Op) → rank_of (answer_of_nothing d op) ≡ 1
@@ -72,10 +72,10 @@ module _ (ask : Ask) (cold : ℕ → List Call → Given → Type 0) (warm : ℕ
 
 -- the reply has the greatest rank only where that is computed
 abbrev pub Fails : Op → Plan → Given → Type 0
-Fails op p given = 4 ≤ rank given → fails op p ≡ true
+Fails op p given = 4 ≤ rank given → can_fail op p ≡ true
 
 mutual
-  pub word_fails : (p : Plan) (ask : Ask) (origin : Origin) (b : ℕ) (calls : List Call) (given : Given) → Word p ask origin b calls given → Fails ask.op p given
+  pub word_fails : (p : Plan) (ask : Ask) (origin : Origin) (b : ℕ) (calls : List Call) (given : Given) → PlanWord p ask origin b calls given → Fails ask.op p given
   word_fails (Server t) ask origin b calls given w le = refl
   word_fails Null ask origin b calls given w le = absurd (let e = ap rank w.1 in let n = null_rank ask in omega arith)
   word_fails Failing ask origin b calls given w le = refl
@@ -90,7 +90,7 @@ mutual
       (λ op. ⊎_elim
       (λ h. h le)
       (λ z. absurd (let r = z.0 in omega arith))
-      (warm_up_sides ask (Word cold ask origin) (Word warm (plain_get ask) origin) (λ hit i. Word cold (refill ask hit e) (CopyOf i)) (Fails ask.op cold) (λ g. Unit {0}) (λ b' c' g' w'. word_fails cold ask origin b' c' g' w') (λ _ _ _ _. tt) b calls given (only_get ask.op _ _ op w)))
+      (warm_up_sides ask (PlanWord cold ask origin) (PlanWord warm (plain_get ask) origin) (λ hit i. PlanWord cold (refill ask hit e) (CopyOf i)) (Fails ask.op cold) (λ g. Unit {0}) (λ b' c' g' w'. word_fails cold ask origin b' c' g' w') (λ _ _ _ _. tt) b calls given (only_get ask.op _ _ op w)))
       (λ n. word_fails cold ask origin b calls given (only_other ask.op _ _ n w) le)
   word_fails (ByOperation policies) ask origin b calls given w le = policy_fails policies ask origin b calls given w le
 
@@ -98,16 +98,16 @@ mutual
   some_fails End ask origin b calls all worst w is le = absurd (subst (λ a. IsWorst rank a worst) w.1 is)
   some_fails (More p ps) ask origin b calls all worst w is le =
       ⊎_elim
-      (λ here. either_left (fails ask.op p) _ (word_fails p ask origin b w.0 w.3 w.4 (let e = ap rank here.0 in omega arith)))
-      (λ there. either_right (fails ask.op p) _ (some_fails ps ask origin (b + length w.0) w.1 w.5 worst w.7 there.1 le))
+      (λ here. either_left (can_fail ask.op p) _ (word_fails p ask origin b w.0 w.3 w.4 (let e = ap rank here.0 in omega arith)))
+      (λ there. either_right (can_fail ask.op p) _ (some_fails ps ask origin (b + length w.0) w.1 w.5 worst w.7 there.1 le))
       (subst (λ a. IsWorst rank a worst) w.6 is)
 
   each_fails : (ps : Plans) (ask : Ask) (origin : Origin) (b : ℕ) (calls : List Call) (given : Given) → WordOfFirst ps 4 ask origin b calls given → 4 ≤ rank given → fails_each ask.op ps ≡ true
   each_fails End ask origin b calls given w le = absurd w
-  each_fails (More p End) ask origin b calls given (inl w) le = both (fails ask.op p) true (word_fails p ask origin b calls given w.0 le) refl
+  each_fails (More p End) ask origin b calls given (inl w) le = both (can_fail ask.op p) true (word_fails p ask origin b calls given w.0 le) refl
   each_fails (More p (More q qs)) ask origin b calls given (inl w) le = absurd (⊎_elim (λ lt. (let h : ⊥ = omega arith in h)) (λ e. e) w.1)
   each_fails (More p ps) ask origin b calls given (inr w) le =
-      both (fails ask.op p) _ (word_fails p ask origin b w.0 w.3 w.4 w.5) (each_fails ps ask origin (b + length w.0) w.1 given w.6 le)
+      both (can_fail ask.op p) _ (word_fails p ask origin b w.0 w.3 w.4 w.5) (each_fails ps ask origin (b + length w.0) w.1 given w.6 le)
 
   last_fails : (ps : Plans) (ask : Ask) (origin : Origin) (b : ℕ) (calls : List Call) (given : Given) → WordOfFirst ps 1 ask origin b calls given → 4 ≤ rank given → fails_last ask.op ps ≡ true
   last_fails End ask origin b calls given w le = absurd w
@@ -133,7 +133,7 @@ abbrev pub Hits : Op → Plan → Given → Type 0
 Hits op p given = rank given ≡ 0 → hits op p ≡ true
 
 mutual
-  pub word_hits : (p : Plan) (ask : Ask) (origin : Origin) (b : ℕ) (calls : List Call) (given : Given) → Word p ask origin b calls given → Hits ask.op p given
+  pub word_hits : (p : Plan) (ask : Ask) (origin : Origin) (b : ℕ) (calls : List Call) (given : Given) → PlanWord p ask origin b calls given → Hits ask.op p given
   word_hits (Server t) ask origin b calls given w z = refl
   word_hits Null ask origin b calls given w z = absurd (let e = ap rank w.1 in let n = null_rank ask in omega arith)
   word_hits Failing ask origin b calls given w z = absurd (let e = ap rank w.1 in omega arith)
@@ -148,7 +148,7 @@ mutual
       (λ op. ⊎_elim
       (λ h. either_left (hits ask.op cold) _ (h z))
       (λ h. either_right (hits ask.op cold) _ (both (asks_get ask.op) _ (is_get_of ask.op op) (subst (λ o. hits o warm ≡ true) (sym op) (h.1 h.0))))
-      (warm_up_sides ask (Word cold ask origin) (Word warm (plain_get ask) origin) (λ hit i. Word cold (refill ask hit e) (CopyOf i)) (Hits ask.op cold) (Hits Get warm) (λ b' c' g' w'. word_hits cold ask origin b' c' g' w') (λ b' c' g' w'. word_hits warm (plain_get ask) origin b' c' g' w') b calls given (only_get ask.op _ _ op w)))
+      (warm_up_sides ask (PlanWord cold ask origin) (PlanWord warm (plain_get ask) origin) (λ hit i. PlanWord cold (refill ask hit e) (CopyOf i)) (Hits ask.op cold) (Hits Get warm) (λ b' c' g' w'. word_hits cold ask origin b' c' g' w') (λ b' c' g' w'. word_hits warm (plain_get ask) origin b' c' g' w') b calls given (only_get ask.op _ _ op w)))
       (λ n. either_left (hits ask.op cold) _ (word_hits cold ask origin b calls given (only_other ask.op _ _ n w) z))
   word_hits (ByOperation policies) ask origin b calls given w z = policy_hits policies ask origin b calls given w z
 
@@ -170,7 +170,7 @@ mutual
   first_hits End ask origin b calls given w z = absurd w
   first_hits (More p ps) ask origin b calls given (inl w) z = either_left (hits ask.op p) _ (word_hits p ask origin b calls given w.0 z)
   first_hits (More p ps) ask origin b calls given (inr w) z =
-      either_right (hits ask.op p) _ (both (fails ask.op p) _ (word_fails p ask origin b w.0 w.3 w.4 w.5) (first_hits ps ask origin (b + length w.0) w.1 given w.6 z))
+      either_right (hits ask.op p) _ (both (can_fail ask.op p) _ (word_fails p ask origin b w.0 w.3 w.4 w.5) (first_hits ps ask origin (b + length w.0) w.1 given w.6 z))
 
   some_hits : (ps : Plans) (ask : Ask) (origin : Origin) (b : ℕ) (calls : List Call) (given : Given) → WordOfFirst ps 1 ask origin b calls given → rank given ≡ 0 → hits_some ask.op ps ≡ true
   some_hits End ask origin b calls given w z = absurd w

@@ -16,15 +16,15 @@ use Rattle.mc_types.specs.Rank.{rank_of, IsWorst, NoneAbove}
 use Rattle.mc_types.specs.Shows.{shows}
 use Rattle.fresh_runs.specs.Calls.{Call}
 use Rattle.route_tree.specs.Operation.{same_op}
-use Rattle.route_tree.specs.Plan.{Plan, Plans, PlanPolicies, Server, Null, Failing, AllSync, Failover, MissFailover, WarmUp, ByOperation, End, More, Otherwise, Policy, IsNotEmpty, IsGood, AreGood, ArePoliciesGood}
-use Rattle.route_tree.specs.Word.{Given, rank, given_by, plain_get, refill, is_plain_get, Word, WordOfAll, WordOfFirst, WordOfHead, WordOfPolicy, Then, AfterRefill, Refilled, AfterWarm, AfterCold, WarmUpWord}
+use Rattle.route_tree.specs.Plan.{Plan, Plans, PlanPolicies, Server, Null, Failing, AllSync, Failover, MissFailover, WarmUp, ByOperation, End, More, Otherwise, Policy, IsNotEmpty, IsGoodPlan, AreGoodPlans, AreGoodPlanPolicies}
+use Rattle.route_tree.specs.Word.{Given, rank, given_by, plain_get, refill, is_plain_get, PlanWord, WordOfAll, WordOfFirst, WordOfHead, WordOfPolicy, Then, AfterRefill, Refilled, AfterWarm, AfterCold, WarmUpWord}
 use Rattle.route_tree.proofs.Parts.{Replies, HasSome, Rest, then_rest}
 use Rattle.route_tree.proofs.Gets.{NamesHit, get_names_hit}
 use Rattle.route_tree.proofs.Showing.{get_front, get_back}
 use Rattle.route_tree.proofs.Words.{own_calls}
 use Rattle.route_tree.proofs.Going.{first_rest, has_word, all_some, first_some, after_refill_some, after_warm_some, after_cold_some}
 use Rattle.gate_coverage.specs.Cover.{IsTaking, Takes}
-use Rattle.gate_coverage.specs.Computed.{asks_get, is_taking, fails, hits, hits_each, hits_first, hits_some, hits_head, hits_policy, shown, shown_each, shown_first, shown_some, shown_head, shown_policy, adds, copied, copied_some, copied_first, copied_policy, takes_server}
+use Rattle.gate_coverage.specs.Computed.{asks_get, is_taking, can_fail, hits, hits_each, hits_first, hits_some, hits_head, hits_policy, shown, shown_each, shown_first, shown_some, shown_head, shown_policy, adds, copied, copied_some, copied_first, copied_policy, takes_server}
 use Rattle.gate_coverage.specs.Exact.{TakenIsExact}
 use Rattle.gate_coverage.proofs.Choices.{both, both_split, either_left, either_right, either_split, bool_is, cond_true, cond_false, if_true, if_false, match_true, match_false, by_get, get_is, other_is, is_get_of, get_of, no_get_of, HasCall, has_front, has_back, AreSome, one_less}
 use Rattle.gate_coverage.proofs.Low.{low, first_given, cold_hit, warm_hit}
@@ -34,7 +34,7 @@ use Rattle.gate_coverage.proofs.Copying.{refill_adds, is_taking_op, takes_is_tak
 
 module _ (op : Op) where
   mutual
-    pub some_shown : (p : Plan) → IsGood p → hits op p ≡ true → (s : ℕ) × (shown op s p ≡ true)
+    pub some_shown : (p : Plan) → IsGoodPlan p → hits op p ≡ true → (s : ℕ) × (shown op s p ≡ true)
     some_shown (Server t) good h = (t, eq-eqb t t refl)
     some_shown Null good h = absurd (cc)
     some_shown Failing good h = absurd (cc)
@@ -51,22 +51,22 @@ module _ (op : Op) where
         (either_split (hits op cold) (asks_get op && hits op warm) h)
     some_shown (ByOperation ps) good h = policy_shown ps good h
 
-    each_shown : (ps : Plans) → IsNotEmpty ps → AreGood ps → hits_each op ps ≡ true → (s : ℕ) × (shown_each op s ps ≡ true)
+    each_shown : (ps : Plans) → IsNotEmpty ps → AreGoodPlans ps → hits_each op ps ≡ true → (s : ℕ) × (shown_each op s ps ≡ true)
     each_shown End some good h = absurd some
     each_shown (More p ps) some good h =
         let t = both_split (hits op p) (hits_each op ps) h in
         let x = some_shown p good.0 t.0 in
         (x.0, both (shown op x.0 p) _ x.1 t.1)
 
-    first_shown : (ps : Plans) → AreGood ps → hits_first op ps ≡ true → (s : ℕ) × (shown_first op s ps ≡ true)
+    first_shown : (ps : Plans) → AreGoodPlans ps → hits_first op ps ≡ true → (s : ℕ) × (shown_first op s ps ≡ true)
     first_shown End good h = absurd (cc)
     first_shown (More p ps) good h =
         ⊎_elim
         (λ here. let x = some_shown p good.0 here in (x.0, either_left (shown op x.0 p) _ x.1))
-        (λ there. let t = both_split (fails op p) (hits_first op ps) there in let x = first_shown ps good.1 t.1 in (x.0, either_right (shown op x.0 p) _ (both (fails op p) _ t.0 x.1)))
-        (either_split (hits op p) (fails op p && hits_first op ps) h)
+        (λ there. let t = both_split (can_fail op p) (hits_first op ps) there in let x = first_shown ps good.1 t.1 in (x.0, either_right (shown op x.0 p) _ (both (can_fail op p) _ t.0 x.1)))
+        (either_split (hits op p) (can_fail op p && hits_first op ps) h)
 
-    any_shown : (ps : Plans) → AreGood ps → hits_some op ps ≡ true → (s : ℕ) × (shown_some op s ps ≡ true)
+    any_shown : (ps : Plans) → AreGoodPlans ps → hits_some op ps ≡ true → (s : ℕ) × (shown_some op s ps ≡ true)
     any_shown End good h = absurd (cc)
     any_shown (More p ps) good h =
         ⊎_elim
@@ -74,11 +74,11 @@ module _ (op : Op) where
         (λ there. let x = any_shown ps good.1 there in (x.0, either_right (shown op x.0 p) _ x.1))
         (either_split (hits op p) (hits_some op ps) h)
 
-    head_shown : (ps : Plans) → AreGood ps → hits_head op ps ≡ true → (s : ℕ) × (shown_head op s ps ≡ true)
+    head_shown : (ps : Plans) → AreGoodPlans ps → hits_head op ps ≡ true → (s : ℕ) × (shown_head op s ps ≡ true)
     head_shown End good h = absurd (cc)
     head_shown (More p ps) good h = some_shown p good.0 h
 
-    policy_shown : (ps : PlanPolicies) → ArePoliciesGood ps → hits_policy op ps ≡ true → (s : ℕ) × (shown_policy op s ps ≡ true)
+    policy_shown : (ps : PlanPolicies) → AreGoodPlanPolicies ps → hits_policy op ps ≡ true → (s : ℕ) × (shown_policy op s ps ≡ true)
     policy_shown (Otherwise p) good h = some_shown p good h
     policy_shown (Policy o p rest) good h =
         ⊎_elim
@@ -115,12 +115,12 @@ of_front s b front back given h = (h.0, h.1, h.2, has_front (λ c. c.server ≡ 
 of_back : (s b : ℕ) (front back : List Call) (given : Given) → IsOf s (b + length front) back given → IsOf s b (front ++ back) given
 of_back s b front back given h = (h.0, h.1, h.2, has_back (λ c. c.server ≡ s) b front back h.1 h.3)
 
-server_word : (t s b : ℕ) (ask : Ask) → (r : IsReadable ask) → nat_eq t s ≡ true → (calls : List Call) × (given : Given) × Word (Server t) ask Client b calls given × IsOf s b calls given
+server_word : (t s b : ℕ) (ask : Ask) → (r : IsReadable ask) → nat_eq t s ≡ true → (calls : List Call) × (given : Given) × PlanWord (Server t) ask Client b calls given × IsOf s b calls given
 server_word t s b ask r h =
     (record { server = t; ask = ask; origin = Client; outcome = Answered r.answer } ∷ [], given_by b (Answered r.answer), (Answered r.answer, r.fits, refl, refl), (r.done, b, ap (λ v. cond v (Some b) None) r.showing, (0, omega arith, record { server = t; ask = ask; origin = Client; outcome = Answered r.answer }, refl, eqb-true t s h)))
 
 mutual
-  pub shown_word : (p : Plan) → IsGood p → (ask : Ask) → IsReadable ask → (b s : ℕ) → shown ask.op s p ≡ true → (calls : List Call) × (given : Given) × Word p ask Client b calls given × IsOf s b calls given
+  pub shown_word : (p : Plan) → IsGoodPlan p → (ask : Ask) → IsReadable ask → (b s : ℕ) → shown ask.op s p ≡ true → (calls : List Call) × (given : Given) × PlanWord p ask Client b calls given × IsOf s b calls given
   shown_word (Server t) good ask r b s h = server_word t s b ask r h
   shown_word Null good ask r b s h = absurd (cc)
   shown_word Failing good ask r b s h = absurd (cc)
@@ -135,7 +135,7 @@ mutual
       (λ here.
       let f = shown_word cold good.0 ask r b s here in
       by_get ask.op _
-      (λ op. (f.0, f.1, get_is ask.op _ _ op (cold_hit ask (Word cold ask Client) (Word warm (plain_get ask) Client) (λ hit i. Word cold (refill ask hit e) (CopyOf i)) b f.0 f.1 f.2 f.3.0), f.3))
+      (λ op. (f.0, f.1, get_is ask.op _ _ op (cold_hit ask (PlanWord cold ask Client) (PlanWord warm (plain_get ask) Client) (λ hit i. PlanWord cold (refill ask hit e) (CopyOf i)) b f.0 f.1 f.2 f.3.0), f.3))
       (λ n. (f.0, f.1, other_is ask.op _ _ n f.2, f.3)))
       (λ there.
       let t = both_split (asks_get ask.op) (shown ask.op s warm) there in
@@ -144,11 +144,11 @@ mutual
       let m = one_less (rank c.1) c.3.low in
       let v = shown_word warm good.1 (plain_get ask) (plain_get_readable ask) (b + length c.0) s (subst (λ o. shown o s warm ≡ true) op t.1) in
       let a = low cold good.0 (refill ask v.1.reply e) (CopyOf v.3.1) (b + length c.0 + length v.0) in
-      (c.0 ++ (v.0 ++ (a.0 ++ [])), v.1, get_is ask.op _ _ op (warm_hit ask (Word cold ask Client) (Word warm (plain_get ask) Client) (λ hit i. Word cold (refill ask hit e) (CopyOf i)) b m.0 v.3.1 c.0 v.0 a.0 [] c.1 v.1 a.1 v.1 c.2 m.1 v.2 v.3.0 v.3.2 a.2 (match_true (is_plain_get ask) _ _ r.plain (refl, refl))), of_back s b c.0 (v.0 ++ (a.0 ++ [])) v.1 (of_front s (b + length c.0) v.0 (a.0 ++ []) v.1 v.3)))
+      (c.0 ++ (v.0 ++ (a.0 ++ [])), v.1, get_is ask.op _ _ op (warm_hit ask (PlanWord cold ask Client) (PlanWord warm (plain_get ask) Client) (λ hit i. PlanWord cold (refill ask hit e) (CopyOf i)) b m.0 v.3.1 c.0 v.0 a.0 [] c.1 v.1 a.1 v.1 c.2 m.1 v.2 v.3.0 v.3.2 a.2 (match_true (is_plain_get ask) _ _ r.plain (refl, refl))), of_back s b c.0 (v.0 ++ (a.0 ++ [])) v.1 (of_front s (b + length c.0) v.0 (a.0 ++ []) v.1 v.3)))
       (either_split (shown ask.op s cold) (asks_get ask.op && shown ask.op s warm) h)
   shown_word (ByOperation policies) good ask r b s h = policy_word policies good ask r b s h
 
-  each_word : (ps : Plans) → AreGood ps → (ask : Ask) → IsReadable ask → (b s : ℕ) → shown_each ask.op s ps ≡ true → (calls : List Call) × (all : List Given) × (worst : Given) × WordOfAll ps ask Client b calls all × IsWorst rank all worst × IsOf s b calls worst
+  each_word : (ps : Plans) → AreGoodPlans ps → (ask : Ask) → IsReadable ask → (b s : ℕ) → shown_each ask.op s ps ≡ true → (calls : List Call) × (all : List Given) × (worst : Given) × WordOfAll ps ask Client b calls all × IsWorst rank all worst × IsOf s b calls worst
   each_word End good ask r b s h = absurd (cc)
   each_word (More p ps) good ask r b s h =
       let t = both_split (shown ask.op s p) (hits_each ask.op ps) h in
@@ -156,7 +156,7 @@ mutual
       let rest = hit_words ps good.1 ask r (b + length f.0) t.1 in
       (f.0 ++ rest.0, f.1 ∷ rest.1, f.1, (f.0, rest.0, refl, f.1, f.2, rest.1, refl, rest.2), inl (refl, subst (NoneAbove rank rest.1) (sym f.3.0) rest.3), of_front s b f.0 rest.0 f.1 f.3)
 
-  hit_words : (ps : Plans) → AreGood ps → (ask : Ask) → IsReadable ask → (b : ℕ) → hits_each ask.op ps ≡ true → (calls : List Call) × (all : List Given) × WordOfAll ps ask Client b calls all × NoneAbove rank all 0
+  hit_words : (ps : Plans) → AreGoodPlans ps → (ask : Ask) → IsReadable ask → (b : ℕ) → hits_each ask.op ps ≡ true → (calls : List Call) × (all : List Given) × WordOfAll ps ask Client b calls all × NoneAbove rank all 0
   hit_words End good ask r b h = ([], [], (refl, refl), tt)
   hit_words (More p ps) good ask r b h =
       let t = both_split (hits ask.op p) (hits_each ask.op ps) h in
@@ -165,19 +165,19 @@ mutual
       let rest = hit_words ps good.1 ask r (b + length f.0) t.1 in
       (f.0 ++ rest.0, f.1 ∷ rest.1, (f.0, rest.0, refl, f.1, f.2, rest.1, refl, rest.2), ((let z = f.3.0 in omega arith), rest.3))
 
-  first_word : (ps : Plans) → AreGood ps → (ask : Ask) → IsReadable ask → (b s : ℕ) → shown_first ask.op s ps ≡ true → (calls : List Call) × (given : Given) × WordOfFirst ps 4 ask Client b calls given × IsOf s b calls given
+  first_word : (ps : Plans) → AreGoodPlans ps → (ask : Ask) → IsReadable ask → (b s : ℕ) → shown_first ask.op s ps ≡ true → (calls : List Call) × (given : Given) × WordOfFirst ps 4 ask Client b calls given × IsOf s b calls given
   first_word End good ask r b s h = absurd (cc)
   first_word (More p ps) good ask r b s h =
       ⊎_elim
       (λ here. let f = shown_word p good.0 ask r b s here in (f.0, f.1, inl (f.2, inl (let z = f.3.0 in omega arith)), f.3))
       (λ there.
-      let t = both_split (fails ask.op p) (shown_first ask.op s ps) there in
+      let t = both_split (can_fail ask.op p) (shown_first ask.op s ps) there in
       let f = low p good.0 ask Client b in
       let rest = first_word ps good.1 ask r (b + length f.0) s t.1 in
       (f.0 ++ rest.0, rest.1, inr (f.0, rest.0, refl, f.1, f.2, f.3.worst t.0, rest.2), of_back s b f.0 rest.0 rest.1 rest.3))
-      (either_split (shown ask.op s p) (fails ask.op p && shown_first ask.op s ps) h)
+      (either_split (shown ask.op s p) (can_fail ask.op p && shown_first ask.op s ps) h)
 
-  any_word : (ps : Plans) → AreGood ps → (ask : Ask) → IsReadable ask → (b s : ℕ) → shown_some ask.op s ps ≡ true → (calls : List Call) × (given : Given) × WordOfFirst ps 1 ask Client b calls given × IsOf s b calls given
+  any_word : (ps : Plans) → AreGoodPlans ps → (ask : Ask) → IsReadable ask → (b s : ℕ) → shown_some ask.op s ps ≡ true → (calls : List Call) × (given : Given) × WordOfFirst ps 1 ask Client b calls given × IsOf s b calls given
   any_word End good ask r b s h = absurd (cc)
   any_word (More p ps) good ask r b s h =
       ⊎_elim
@@ -188,11 +188,11 @@ mutual
       (f.0 ++ rest.0, rest.1, inr (f.0, rest.0, refl, f.1, f.2, f.3.low, rest.2), of_back s b f.0 rest.0 rest.1 rest.3))
       (either_split (shown ask.op s p) (shown_some ask.op s ps) h)
 
-  head_word : (ps : Plans) → AreGood ps → (ask : Ask) → IsReadable ask → (b s : ℕ) → shown_head ask.op s ps ≡ true → (calls : List Call) × (given : Given) × WordOfHead ps ask Client b calls given × IsOf s b calls given
+  head_word : (ps : Plans) → AreGoodPlans ps → (ask : Ask) → IsReadable ask → (b s : ℕ) → shown_head ask.op s ps ≡ true → (calls : List Call) × (given : Given) × WordOfHead ps ask Client b calls given × IsOf s b calls given
   head_word End good ask r b s h = absurd (cc)
   head_word (More p ps) good ask r b s h = shown_word p good.0 ask r b s h
 
-  policy_word : (ps : PlanPolicies) → ArePoliciesGood ps → (ask : Ask) → IsReadable ask → (b s : ℕ) → shown_policy ask.op s ps ≡ true → (calls : List Call) × (given : Given) × WordOfPolicy ps ask Client b calls given × IsOf s b calls given
+  policy_word : (ps : PlanPolicies) → AreGoodPlanPolicies ps → (ask : Ask) → IsReadable ask → (b s : ℕ) → shown_policy ask.op s ps ≡ true → (calls : List Call) × (given : Given) × WordOfPolicy ps ask Client b calls given × IsOf s b calls given
   policy_word (Otherwise p) good ask r b s h = shown_word p good ask r b s h
   policy_word (Policy o p rest) good ask r b s h =
       ⊎_elim
@@ -216,31 +216,31 @@ copy_back s b front back h = (h.0, length front + h.1, h.2, get_back front back 
 then_after : {G H : Type 0} (first : ℕ → List Call → G → Type 0) (second : G → ℕ → List Call → H → Type 0) (b : ℕ) (here more : List Call) (g : G) → first b here g → Rest (second g) (b + length here) more → Rest (Then first second) b (here ++ more)
 then_after first second b here more g w r = (r.0, r.1, (here, more ++ r.0, append_assoc here more r.0, g, w, r.2))
 
-first_after : (p : Plan) (ps : Plans) (limit : ℕ) (ask : Ask) (b : ℕ) (here more : List Call) (g : Given) → Word p ask Client b here g → limit ≤ rank g → Rest (WordOfFirst ps limit ask Client) (b + length here) more → Rest (WordOfFirst (More p ps) limit ask Client) b (here ++ more)
+first_after : (p : Plan) (ps : Plans) (limit : ℕ) (ask : Ask) (b : ℕ) (here more : List Call) (g : Given) → PlanWord p ask Client b here g → limit ≤ rank g → Rest (WordOfFirst ps limit ask Client) (b + length here) more → Rest (WordOfFirst (More p ps) limit ask Client) b (here ++ more)
 first_after p ps limit ask b here more g w le r = (r.0, r.1, inr (here, more ++ r.0, append_assoc here more r.0, g, w, le, r.2))
 
-all_after : (p : Plan) (ps : Plans) (ask : Ask) (b : ℕ) (here more : List Call) (g : Given) → Word p ask Client b here g → Rest (WordOfAll ps ask Client) (b + length here) more → Rest (WordOfAll (More p ps) ask Client) b (here ++ more)
+all_after : (p : Plan) (ps : Plans) (ask : Ask) (b : ℕ) (here more : List Call) (g : Given) → PlanWord p ask Client b here g → Rest (WordOfAll ps ask Client) (b + length here) more → Rest (WordOfAll (More p ps) ask Client) b (here ++ more)
 all_after p ps ask b here more g w r = (r.0, g ∷ r.1, (here, more ++ r.0, append_assoc here more r.0, g, w, r.1, refl, r.2))
 
-all_rest : (p : Plan) (ps : Plans) → AreGood ps → (ask : Ask) (b : ℕ) (calls : List Call) → Rest (Word p ask Client) b calls → Rest (WordOfAll (More p ps) ask Client) b calls
+all_rest : (p : Plan) (ps : Plans) → AreGoodPlans ps → (ask : Ask) (b : ℕ) (calls : List Call) → Rest (PlanWord p ask Client) b calls → Rest (WordOfAll (More p ps) ask Client) b calls
 all_rest p ps good ask b calls r =
     let more = all_some ps good ask Client (b + length (calls ++ r.0)) in
     (r.0 ++ more.0, r.1 ∷ more.1, (calls ++ r.0, more.0, sym (append_assoc calls r.0 more.0), r.1, r.2, more.1, refl, more.2))
 
-first_is_own : (ask : Ask) (k b : ℕ) (p : Plan) (calls : List Call) (given : Given) → ask.op ≢ Get → Word p ask (CopyOf k) b calls given → AreSome calls → (copy : Call) × (slice_get calls 0 ≡ Some copy) × (copy.origin ≡ CopyOf k)
+first_is_own : (ask : Ask) (k b : ℕ) (p : Plan) (calls : List Call) (given : Given) → ask.op ≢ Get → PlanWord p ask (CopyOf k) b calls given → AreSome calls → (copy : Call) × (slice_get calls 0 ≡ Some copy) × (copy.origin ≡ CopyOf k)
 first_is_own ask k b p [] given other w some = absurd some
 first_is_own ask k b p (c ∷ calls) given other w some = (c, refl, ⊎_elim (λ own. own.1) (λ get. absurd (other get)) (own_calls p ask (CopyOf k) b (c ∷ calls) given w).0)
 
 -- through a cold and a warm side
-module _ (cold warm : Plan) (e : ℕ) (good : IsGood cold) (good_warm : IsGood warm) (ask : Ask) (op : ask.op ≡ Get) (s : ℕ) where
+module _ (cold warm : Plan) (e : ℕ) (good : IsGoodPlan cold) (good_warm : IsGoodPlan warm) (ask : Ask) (op : ask.op ≡ Get) (s : ℕ) where
   abbrev C : ℕ → List Call → Given → Type 0
-  C = Word cold ask Client
+  C = PlanWord cold ask Client
 
   abbrev W : ℕ → List Call → Given → Type 0
-  W = Word warm (plain_get ask) Client
+  W = PlanWord warm (plain_get ask) Client
 
   abbrev A : Answer → ℕ → ℕ → List Call → Given → Type 0
-  A hit k = Word cold (refill ask hit e) (CopyOf k)
+  A hit k = PlanWord cold (refill ask hit e) (CopyOf k)
 
   abbrev Through : ℕ → List Call → Given → Type 0
   Through = WarmUpWord ask C W A
@@ -295,7 +295,7 @@ module _ (cold warm : Plan) (e : ℕ) (good : IsGood cold) (good_warm : IsGood w
       (v.0 ++ a.0, then_after W (λ g. AfterWarm ask C W A first g (rank g)) b v.0 a.0 v.1 v.2 after, (k, length v.0 + 0, own.0, get_back v.0 a.0 0 own.0 own.1, own.2, has_front (λ c. c.server ≡ s) b v.0 a.0 k v.3.3))
 
 mutual
-  pub copied_word : (p : Plan) → IsGood p → (ask : Ask) → ask.op ≡ Get → (b s : ℕ) → copied Get s p ≡ true → (calls : List Call) × Rest (Word p ask Client) b calls × HasCopy s b calls
+  pub copied_word : (p : Plan) → IsGoodPlan p → (ask : Ask) → ask.op ≡ Get → (b s : ℕ) → copied Get s p ≡ true → (calls : List Call) × Rest (PlanWord p ask Client) b calls × HasCopy s b calls
   copied_word (Server t) good ask op b s h = absurd (cc)
   copied_word Null good ask op b s h = absurd (cc)
   copied_word Failing good ask op b s h = absurd (cc)
@@ -316,7 +316,7 @@ mutual
       (w.0, (w.1.0, w.1.1, get_is ask.op _ _ op w.1.2), w.2)
   copied_word (ByOperation policies) good ask op b s h = copied_policy_word policies good ask op b s h
 
-  copied_all : (ps : Plans) → AreGood ps → (ask : Ask) → ask.op ≡ Get → (b s : ℕ) → copied_some Get s ps ≡ true → (calls : List Call) × Rest (WordOfAll ps ask Client) b calls × HasCopy s b calls
+  copied_all : (ps : Plans) → AreGoodPlans ps → (ask : Ask) → ask.op ≡ Get → (b s : ℕ) → copied_some Get s ps ≡ true → (calls : List Call) × Rest (WordOfAll ps ask Client) b calls × HasCopy s b calls
   copied_all End good ask op b s h = absurd (cc)
   copied_all (More p ps) good ask op b s h =
       ⊎_elim
@@ -327,19 +327,19 @@ mutual
       (c.0 ++ f.0, all_after p ps ask b c.0 f.0 c.1 c.2 f.1, copy_back s b c.0 f.0 f.2))
       (either_split (copied Get s p) (copied_some Get s ps) h)
 
-  copied_first_word : (ps : Plans) → AreGood ps → (ask : Ask) → ask.op ≡ Get → (b s : ℕ) → copied_first Get s ps ≡ true → (calls : List Call) × Rest (WordOfFirst ps 4 ask Client) b calls × HasCopy s b calls
+  copied_first_word : (ps : Plans) → AreGoodPlans ps → (ask : Ask) → ask.op ≡ Get → (b s : ℕ) → copied_first Get s ps ≡ true → (calls : List Call) × Rest (WordOfFirst ps 4 ask Client) b calls × HasCopy s b calls
   copied_first_word End good ask op b s h = absurd (cc)
   copied_first_word (More p ps) good ask op b s h =
       ⊎_elim
       (λ here. let f = copied_word p good.0 ask op b s here in (f.0, first_rest p ps 4 ask Client (λ some. first_some ps 4 some good.1 ask Client) b f.0 f.1, f.2))
       (λ there.
-      let t = both_split (fails Get p) (copied_first Get s ps) there in
+      let t = both_split (can_fail Get p) (copied_first Get s ps) there in
       let c = low p good.0 ask Client b in
       let f = copied_first_word ps good.1 ask op (b + length c.0) s t.1 in
-      (c.0 ++ f.0, first_after p ps 4 ask b c.0 f.0 c.1 c.2 (c.3.worst (subst (λ o. fails o p ≡ true) (sym op) t.0)) f.1, copy_back s b c.0 f.0 f.2))
-      (either_split (copied Get s p) (fails Get p && copied_first Get s ps) h)
+      (c.0 ++ f.0, first_after p ps 4 ask b c.0 f.0 c.1 c.2 (c.3.worst (subst (λ o. can_fail o p ≡ true) (sym op) t.0)) f.1, copy_back s b c.0 f.0 f.2))
+      (either_split (copied Get s p) (can_fail Get p && copied_first Get s ps) h)
 
-  copied_any : (ps : Plans) → AreGood ps → (ask : Ask) → ask.op ≡ Get → (b s : ℕ) → copied_some Get s ps ≡ true → (calls : List Call) × Rest (WordOfFirst ps 1 ask Client) b calls × HasCopy s b calls
+  copied_any : (ps : Plans) → AreGoodPlans ps → (ask : Ask) → ask.op ≡ Get → (b s : ℕ) → copied_some Get s ps ≡ true → (calls : List Call) × Rest (WordOfFirst ps 1 ask Client) b calls × HasCopy s b calls
   copied_any End good ask op b s h = absurd (cc)
   copied_any (More p ps) good ask op b s h =
       ⊎_elim
@@ -350,7 +350,7 @@ mutual
       (c.0 ++ f.0, first_after p ps 1 ask b c.0 f.0 c.1 c.2 c.3.low f.1, copy_back s b c.0 f.0 f.2))
       (either_split (copied Get s p) (copied_some Get s ps) h)
 
-  copied_policy_word : (ps : PlanPolicies) → ArePoliciesGood ps → (ask : Ask) → ask.op ≡ Get → (b s : ℕ) → copied_policy Get s ps ≡ true → (calls : List Call) × Rest (WordOfPolicy ps ask Client) b calls × HasCopy s b calls
+  copied_policy_word : (ps : PlanPolicies) → AreGoodPlanPolicies ps → (ask : Ask) → ask.op ≡ Get → (b s : ℕ) → copied_policy Get s ps ≡ true → (calls : List Call) × Rest (WordOfPolicy ps ask Client) b calls × HasCopy s b calls
   copied_policy_word (Otherwise p) good ask op b s h = copied_word p good ask op b s h
   copied_policy_word (Policy o p rest) good ask op b s h =
       ⊎_elim
@@ -391,7 +391,7 @@ some_read Cas h = absurd h
 some_read Delete h = absurd h
 some_read Touch h = absurd h
 
-module _ (plain : Plan) (op : Op) (s : ℕ) (good : IsGood plain) where
+module _ (plain : Plan) (op : Op) (s : ℕ) (good : IsGoodPlan plain) where
   taken_takes : takes_server plain op s ≡ true → Takes plain op s
   taken_takes h =
       let t = both_split (is_taking op) (shown op s plain || (asks_get op && copied op s plain)) h in

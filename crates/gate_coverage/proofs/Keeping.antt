@@ -22,14 +22,14 @@ use Rattle.fresh_runs.specs.Cover.{ClearsIn}
 use Rattle.fresh_runs.specs.Single.{FitsOutcome}
 use Rattle.route_tree.specs.Each.{Each}
 use Rattle.route_tree.specs.Operation.{same_op}
-use Rattle.route_tree.specs.Plan.{Plan, Plans, PlanPolicies, Server, Null, Failing, AllSync, Failover, MissFailover, WarmUp, ByOperation, End, More, Otherwise, Policy, IsGood, AreGood, ArePoliciesGood}
-use Rattle.route_tree.specs.Word.{Given, rank, given_by, null_reply, no_fields, answer_of_nothing, Word, WordOfAll, WordOfFirst, WordOfHead, WordOfPolicy}
+use Rattle.route_tree.specs.Plan.{Plan, Plans, PlanPolicies, Server, Null, Failing, AllSync, Failover, MissFailover, WarmUp, ByOperation, End, More, Otherwise, Policy, IsGoodPlan, AreGoodPlans, AreGoodPlanPolicies}
+use Rattle.route_tree.specs.Word.{Given, rank, given_by, null_reply, no_fields, answer_of_nothing, PlanWord, WordOfAll, WordOfFirst, WordOfHead, WordOfPolicy}
 use Rattle.route_tree.proofs.Parts.{each_weaker, worst_is}
 use Rattle.route_tree.proofs.Places.{each_append, each_left, each_right}
 use Rattle.gate_coverage.specs.declared.deleting.Deleting.{Deleting}
 use Rattle.gate_coverage.specs.declared.deleting.Deleting.TheVariants as kinds
 use Rattle.gate_coverage.specs.Cover.{Clears, deleting_dialect}
-use Rattle.gate_coverage.specs.Computed.{fails, kept, kept_each, kept_first, kept_head, kept_policy, cleared}
+use Rattle.gate_coverage.specs.Computed.{can_fail, kept, kept_each, kept_first, kept_head, kept_policy, cleared}
 use Rattle.gate_coverage.specs.Exact.{ClearedIsExact}
 use Rattle.gate_coverage.proofs.Choices.{both, both_split, either_left, either_right, either_split, bool_is, if_true, if_false, cond_true, cond_false, not_false, match_true, match_false, true_match, false_match, only_other}
 use Rattle.gate_coverage.proofs.Failing.{word_fails}
@@ -153,7 +153,7 @@ module _ (s : ℕ) (ask : Ask) (op : ask.op ≡ Delete) where
   server_keeps t b (Answered answer) fits le leaves = away (nat_eq t s) (says_gone answer) (low_gone ask answer op fits le) leaves
 
   mutual
-    word_keeps : (p : Plan) (b : ℕ) (calls : List Call) (given : Given) → Word p ask Client b calls given → Kept p calls given
+    word_keeps : (p : Plan) (b : ℕ) (calls : List Call) (given : Given) → PlanWord p ask Client b calls given → Kept p calls given
     word_keeps (Server t) b calls given w le leaves =
         let l = subst (Each (Leaves s)) w.2 leaves in
         server_keeps t b w.0 w.1 (let e = ap rank w.3 in omega arith) l.0
@@ -186,7 +186,7 @@ module _ (s : ℕ) (ask : Ask) (op : ask.op ≡ Delete) where
     first_keeps (More p ps) b calls given (inl w) le leaves = either_left (kept Delete s p) _ (word_keeps p b calls given w.0 le leaves)
     first_keeps (More p ps) b calls given (inr w) le leaves =
         let l = subst (Each (Leaves s)) w.2 leaves in
-        either_right (kept Delete s p) _ (both (fails Delete p) _ (subst (λ o. fails o p ≡ true) op (word_fails p ask Client b w.0 w.3 w.4 w.5)) (first_keeps ps (b + length w.0) w.1 given w.6 le (each_right (Leaves s) w.0 w.1 l)))
+        either_right (kept Delete s p) _ (both (can_fail Delete p) _ (subst (λ o. can_fail o p ≡ true) op (word_fails p ask Client b w.0 w.3 w.4 w.5)) (first_keeps ps (b + length w.0) w.1 given w.6 le (each_right (Leaves s) w.0 w.1 l)))
 
     head_keeps : (ps : Plans) (b : ℕ) (calls : List Call) (given : Given) → WordOfHead ps ask Client b calls given → rank given ≤ 1 → Each (Leaves s) calls → kept_head Delete s ps ≡ true
     head_keeps End b calls given w le leaves = absurd w
@@ -232,14 +232,14 @@ module _ (s : ℕ) (kind : Deleting) where
   IsGone given = says_gone given.reply ≡ true
 
   abbrev Found : Plan → ℕ → Type 0
-  Found p b = (calls : List Call) × (given : Given) × Word p (a_delete kind) Client b calls given × IsGone given × Each (Leaves s) calls
+  Found p b = (calls : List Call) × (given : Given) × PlanWord p (a_delete kind) Client b calls given × IsGone given × Each (Leaves s) calls
 
   elsewhere : (a g : Bool) → not a ≡ true → (a && g) ≡ false
   elsewhere true g h = absurd (cc)
   elsewhere false g h = refl
 
   mutual
-    keeps_word : (p : Plan) → IsGood p → (b : ℕ) → kept Delete s p ≡ true → Found p b
+    keeps_word : (p : Plan) → IsGoodPlan p → (b : ℕ) → kept Delete s p ≡ true → Found p b
     keeps_word (Server t) good b h =
         (record { server = t; ask = a_delete kind; origin = Client; outcome = Answered (gone_for kind) } ∷ [], given_by b (Answered (gone_for kind)), (Answered (gone_for kind), gone_fits kind, refl, refl), gone_says kind, (elsewhere (nat_eq t s) (says_gone (gone_for kind)) h, tt))
     keeps_word Null good b h = ([], null_reply (a_delete kind), (refl, refl), null_gone kind, tt)
@@ -253,7 +253,7 @@ module _ (s : ℕ) (kind : Deleting) where
     keeps_word (WarmUp cold warm e) good b h = keeps_word cold good.0 b h
     keeps_word (ByOperation policies) good b h = keeps_policy policies good b h
 
-    keeps_each : (ps : Plans) → AreGood ps → (b : ℕ) → kept_each Delete s ps ≡ true → (calls : List Call) × (all : List Given) × WordOfAll ps (a_delete kind) Client b calls all × Each IsGone all × Each (Leaves s) calls
+    keeps_each : (ps : Plans) → AreGoodPlans ps → (b : ℕ) → kept_each Delete s ps ≡ true → (calls : List Call) × (all : List Given) × WordOfAll ps (a_delete kind) Client b calls all × Each IsGone all × Each (Leaves s) calls
     keeps_each End good b h = ([], [], (refl, refl), tt, tt)
     keeps_each (More p ps) good b h =
         let t = both_split (kept Delete s p) (kept_each Delete s ps) h in
@@ -261,23 +261,23 @@ module _ (s : ℕ) (kind : Deleting) where
         let rest = keeps_each ps good.1 (b + length f.0) t.1 in
         (f.0 ++ rest.0, f.1 ∷ rest.1, (f.0, rest.0, refl, f.1, f.2, rest.1, refl, rest.2), (f.3, rest.3), each_append (Leaves s) f.0 rest.0 f.4 rest.4)
 
-    keeps_first : (ps : Plans) → AreGood ps → (b : ℕ) → kept_first Delete s ps ≡ true → (calls : List Call) × (given : Given) × WordOfFirst ps 4 (a_delete kind) Client b calls given × IsGone given × Each (Leaves s) calls
+    keeps_first : (ps : Plans) → AreGoodPlans ps → (b : ℕ) → kept_first Delete s ps ≡ true → (calls : List Call) × (given : Given) × WordOfFirst ps 4 (a_delete kind) Client b calls given × IsGone given × Each (Leaves s) calls
     keeps_first End good b h = absurd (cc)
     keeps_first (More p ps) good b h =
         ⊎_elim
         (λ here. let f = keeps_word p good.0 b here in (f.0, f.1, inl (f.2, inl (let le = gone_rank f.1.reply f.3 in omega arith)), f.3, f.4))
         (λ there.
-        let t = both_split (fails Delete p) (kept_first Delete s ps) there in
+        let t = both_split (can_fail Delete p) (kept_first Delete s ps) there in
         let f = low p good.0 (a_delete kind) Client b in
         let rest = keeps_first ps good.1 (b + length f.0) t.1 in
         (f.0 ++ rest.0, rest.1, inr (f.0, rest.0, refl, f.1, f.2, f.3.worst t.0, rest.2), rest.3, each_append (Leaves s) f.0 rest.0 (failed_leaves s f.0 f.3.failed) rest.4))
-        (either_split (kept Delete s p) (fails Delete p && kept_first Delete s ps) h)
+        (either_split (kept Delete s p) (can_fail Delete p && kept_first Delete s ps) h)
 
-    keeps_head : (ps : Plans) → AreGood ps → (b : ℕ) → kept_head Delete s ps ≡ true → (calls : List Call) × (given : Given) × WordOfHead ps (a_delete kind) Client b calls given × IsGone given × Each (Leaves s) calls
+    keeps_head : (ps : Plans) → AreGoodPlans ps → (b : ℕ) → kept_head Delete s ps ≡ true → (calls : List Call) × (given : Given) × WordOfHead ps (a_delete kind) Client b calls given × IsGone given × Each (Leaves s) calls
     keeps_head End good b h = absurd (cc)
     keeps_head (More p ps) good b h = keeps_word p good.0 b h
 
-    keeps_policy : (ps : PlanPolicies) → ArePoliciesGood ps → (b : ℕ) → kept_policy Delete s ps ≡ true → (calls : List Call) × (given : Given) × WordOfPolicy ps (a_delete kind) Client b calls given × IsGone given × Each (Leaves s) calls
+    keeps_policy : (ps : PlanPolicies) → AreGoodPlanPolicies ps → (b : ℕ) → kept_policy Delete s ps ≡ true → (calls : List Call) × (given : Given) × WordOfPolicy ps (a_delete kind) Client b calls given × IsGone given × Each (Leaves s) calls
     keeps_policy (Otherwise p) good b h = keeps_word p good b h
     keeps_policy (Policy o p rest) good b h =
         ⊎_elim
@@ -285,7 +285,7 @@ module _ (s : ℕ) (kind : Deleting) where
         (λ e. let f = keeps_policy rest good.1 b (cond_false (same_op o Delete) _ _ e h) in (f.0, f.1, match_false (same_op o Delete) _ _ e f.2, f.3, f.4))
         (bool_is (same_op o Delete))
 
-module _ (plain : Plan) (kind : Deleting) (s : ℕ) (good : IsGood plain) where
+module _ (plain : Plan) (kind : Deleting) (s : ℕ) (good : IsGoodPlan plain) where
   cleared_clears : cleared plain s ≡ true → Clears plain kind s
   cleared_clears h ask is op dialect calls reply from w ack =
       ⊎_elim

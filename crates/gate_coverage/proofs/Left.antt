@@ -5,7 +5,7 @@ use Rattle.mc_types.specs.declared.ask.Op.TheVariants.{Add}
 use Rattle.route_tree.specs.Operation.{same_op}
 use Rattle.route_tree.specs.Plan.{Plan, Plans, PlanPolicies, Server, Null, Failing, AllSync, Failover, MissFailover, WarmUp, ByOperation, End, More, Otherwise, Policy}
 use Rattle.route_tree.specs.PlanCode.{plan_size, policies_plan_size}
-use Rattle.gate_coverage.specs.Computed.{fails, fails_last, fails_policy, hits, hits_policy, shown, shown_policy, copied, copied_policy, adds, adds_some, adds_first, adds_head, adds_policy, kept, kept_policy}
+use Rattle.gate_coverage.specs.Computed.{can_fail, fails_last, fails_policy, hits, hits_policy, shown, shown_policy, copied, copied_policy, adds, adds_some, adds_first, adds_head, adds_policy, kept, kept_policy}
 use Rattle.gate_coverage.specs.Asked.{asks, asks_some, asks_first, asks_head, asks_policy}
 use Rattle.gate_coverage.specs.Seen.{for_op, policy_for_op, is_end}
 
@@ -30,8 +30,8 @@ module _ (op : Op) (B : Type 0) (f : Plan → B) (g : PlanPolicies → B) (by : 
     policy_same (Otherwise p) = rw (other p) (left_same p)
     policy_same (Policy o p rest) = rw (policy o p rest) (chosen_same (same_op o op) (for_op op p) (policy_for_op op rest) (f p) (g rest) (left_same p) (policy_same rest))
 
-pub left_fails : (op : Op) (p : Plan) → fails op (for_op op p) ≡ fails op p
-left_fails op p = left_same op Bool (fails op) (fails_policy op) (λ ps. refl) (λ q. refl) (λ o q rest. refl) (λ c w e. refl) p
+pub left_fails : (op : Op) (p : Plan) → can_fail op (for_op op p) ≡ can_fail op p
+left_fails op p = left_same op Bool (can_fail op) (fails_policy op) (λ ps. refl) (λ q. refl) (λ o q rest. refl) (λ c w e. refl) p
 
 pub left_hits : (op : Op) (p : Plan) → hits op (for_op op p) ≡ hits op p
 left_hits op p = left_same op Bool (hits op) (hits_policy op) (λ ps. refl) (λ q. refl) (λ o q rest. refl) (λ c w e. refl) p
@@ -90,7 +90,7 @@ mutual
 
   first_add : (ps : Plans) → asks_first Add ps ≡ adds_first ps
   first_add End = refl
-  first_add (More p ps) = ap₂ (λ x y. x || (fails Add p && y)) (asks_add p) (first_add ps)
+  first_add (More p ps) = ap₂ (λ x y. x || (can_fail Add p && y)) (asks_add p) (first_add ps)
 
   head_add : (ps : Plans) → asks_head Add ps ≡ adds_head ps
   head_add End = refl
@@ -102,6 +102,6 @@ mutual
 
 -- ---- the last child
 
-pub last_fails : (op : Op) (p : Plan) (ps : Plans) → fails_last op (More p ps) ≡ cond (is_end ps) (fails op p) (fails_last op ps)
+pub last_fails : (op : Op) (p : Plan) (ps : Plans) → fails_last op (More p ps) ≡ cond (is_end ps) (can_fail op p) (fails_last op ps)
 last_fails op p End = refl
 last_fails op p (More q qs) = refl

@@ -12,11 +12,11 @@ use Rattle.mc_types.specs.Rank.{IsWorst, NoneAbove}
 use Rattle.fresh_runs.specs.Calls.{Call}
 use Rattle.route_tree.specs.Each.{Each}
 use Rattle.route_tree.specs.Operation.{same_op}
-use Rattle.route_tree.specs.Plan.{Plan, Plans, PlanPolicies, Server, Null, Failing, AllSync, Failover, MissFailover, WarmUp, ByOperation, End, More, Otherwise, Policy, IsNotEmpty, IsGood, AreGood, ArePoliciesGood}
-use Rattle.route_tree.specs.Word.{Given, rank, given_by, null_reply, failing_reply, plain_get, refill, Word, WordOfAll, WordOfFirst, WordOfHead, WordOfPolicy, AfterRefill, Refilled, AfterWarm, AfterCold, WarmUpWord}
+use Rattle.route_tree.specs.Plan.{Plan, Plans, PlanPolicies, Server, Null, Failing, AllSync, Failover, MissFailover, WarmUp, ByOperation, End, More, Otherwise, Policy, IsNotEmpty, IsGoodPlan, AreGoodPlans, AreGoodPlanPolicies}
+use Rattle.route_tree.specs.Word.{Given, rank, given_by, null_reply, failing_reply, plain_get, refill, PlanWord, WordOfAll, WordOfFirst, WordOfHead, WordOfPolicy, AfterRefill, Refilled, AfterWarm, AfterCold, WarmUpWord}
 use Rattle.route_tree.proofs.Places.{each_append}
 use Rattle.route_tree.proofs.Going.{worst_of, worst_none}
-use Rattle.gate_coverage.specs.Computed.{asks_get, fails, fails_some, fails_each, fails_last, fails_head, fails_policy, adds, adds_some, adds_first, adds_head, adds_policy}
+use Rattle.gate_coverage.specs.Computed.{asks_get, can_fail, fails_some, fails_each, fails_last, fails_head, fails_policy, adds, adds_some, adds_first, adds_head, adds_policy}
 use Rattle.gate_coverage.proofs.Choices.{both_split, either_split, bool_is, cond_true, cond_false, match_true, match_false, by_get, get_is, other_is, is_get_of, no_get_of, AreSome, some_left, some_right, one_less}
 use Rattle.gate_coverage.proofs.Failing.{null_rank}
 
@@ -38,10 +38,10 @@ module _ (ask : Ask) (cold : ℕ → List Call → Given → Type 0) (warm : ℕ
       (c1, c2 ++ (c3 ++ c4), refl, first, w, subst (λ r. AfterCold ask cold warm add first r (b + length c1) (c2 ++ (c3 ++ c4)) given) (sym e) (c2, c3 ++ c4, refl, from_warm, v, subst (λ r. AfterWarm ask cold warm add first from_warm r (b + length c1 + length c2) (c3 ++ c4) given) (sym f) (subst (λ o. Refilled ask cold warm add from_warm o (b + length c1 + length c2) (c3 ++ c4) given) (sym is) filled)))
 
 -- what is known of that word
-pub record IsLow (op : Op) (fails adds : Bool) (calls : List Call) (given : Given) : Type 0 where
+pub record IsLow (op : Op) (can_fail adds : Bool) (calls : List Call) (given : Given) : Type 0 where
   pub failed : Each HasFailed calls
   pub low : 1 ≤ rank given
-  pub worst : fails ≡ true → 4 ≤ rank given
+  pub worst : can_fail ≡ true → 4 ≤ rank given
   pub some : op ≡ Add → adds ≡ true → AreSome calls
 
 -- of the children of a list
@@ -60,7 +60,7 @@ first_given End some ask origin b calls all w = absurd some
 first_given (More p ps) some ask origin b calls all w = let h = worst_of w.3 w.5 in (h.0, subst (λ gs. IsWorst rank gs h.0) (sym w.6) h.1)
 
 mutual
-  pub low : (p : Plan) → IsGood p → (ask : Ask) (origin : Origin) (b : ℕ) → (calls : List Call) × (given : Given) × Word p ask origin b calls given × IsLow ask.op (fails ask.op p) (adds p) calls given
+  pub low : (p : Plan) → IsGoodPlan p → (ask : Ask) (origin : Origin) (b : ℕ) → (calls : List Call) × (given : Given) × PlanWord p ask origin b calls given × IsLow ask.op (can_fail ask.op p) (adds p) calls given
   low (Server t) good ask origin b =
       (record { server = t; ask = ask; origin = origin; outcome = Failed } ∷ [], given_by b Failed, (Failed, tt, refl, refl), record { failed = (refl, tt); low = omega arith; worst = λ _. omega arith; some = λ _ _. tt })
   low Null good ask origin b = ([], null_reply ask, (refl, refl), record { failed = tt; low = (let e = null_rank ask in omega arith); worst = λ h. absurd (cc); some = λ _ h. absurd (cc) })
@@ -85,11 +85,11 @@ mutual
       let v = low warm good.1 (plain_get ask) origin (b + length c.0) in
       let m = one_less (rank c.1) c.3.low in
       let n = one_less (rank v.1) v.3.low in
-      (c.0 ++ v.0, c.1, get_is ask.op _ _ op (both_miss ask (Word cold ask origin) (Word warm (plain_get ask) origin) (λ hit w. Word cold (refill ask hit e) (CopyOf w)) b m.0 n.0 c.0 v.0 c.1 v.1 c.2 m.1 v.2 n.1), record { failed = join c.0 v.0 c.3.failed v.3.failed; low = c.3.low; worst = c.3.worst; some = λ a. absurd (cc) }))
+      (c.0 ++ v.0, c.1, get_is ask.op _ _ op (both_miss ask (PlanWord cold ask origin) (PlanWord warm (plain_get ask) origin) (λ hit w. PlanWord cold (refill ask hit e) (CopyOf w)) b m.0 n.0 c.0 v.0 c.1 v.1 c.2 m.1 v.2 n.1), record { failed = join c.0 v.0 c.3.failed v.3.failed; low = c.3.low; worst = c.3.worst; some = λ a. absurd (cc) }))
       (λ n. (c.0, c.1, other_is ask.op _ _ n c.2, c.3))
   low (ByOperation policies) good ask origin b = low_policy policies good ask origin b
 
-  pub each_low : (ps : Plans) → AreGood ps → (ask : Ask) (origin : Origin) (b : ℕ) → (calls : List Call) × (all : List Given) × WordOfAll ps ask origin b calls all × AreLow ask.op ps calls all
+  pub each_low : (ps : Plans) → AreGoodPlans ps → (ask : Ask) (origin : Origin) (b : ℕ) → (calls : List Call) × (all : List Given) × WordOfAll ps ask origin b calls all × AreLow ask.op ps calls all
   each_low End good ask origin b = ([], [], (refl, refl), record { failed = tt; low = λ w is. absurd is; worst = λ h. absurd (cc); some = λ _ h. absurd (cc) })
   each_low (More p ps) good ask origin b =
       let c = low p good.0 ask origin b in
@@ -100,16 +100,16 @@ mutual
         record {
           failed = join c.0 rest.0 c.3.failed rest.3.failed;
           low = λ w is. ⊎_elim (λ here. (let e = ap rank here.0 in let l = c.3.low in omega arith)) (λ there. rest.3.low w there.1) is;
-          worst = λ h r none. ⊎_elim (λ here. (let l = c.3.worst here in let m = none.0 in omega arith)) (λ there. rest.3.worst there r none.1) (either_split (fails ask.op p) (fails_some ask.op ps) h);
+          worst = λ h r none. ⊎_elim (λ here. (let l = c.3.worst here in let m = none.0 in omega arith)) (λ there. rest.3.worst there r none.1) (either_split (can_fail ask.op p) (fails_some ask.op ps) h);
           some = λ e h. ⊎_elim (λ here. some_left c.0 rest.0 (c.3.some e here)) (λ there. some_right c.0 rest.0 (rest.3.some e there)) (either_split (adds p) (adds_some ps) h);
         },
       )
 
-  pub low_first : (ps : Plans) → IsNotEmpty ps → AreGood ps → (ask : Ask) (origin : Origin) (b : ℕ) → (calls : List Call) × (given : Given) × WordOfFirst ps 4 ask origin b calls given × IsLow ask.op (fails_each ask.op ps) (adds_first ps) calls given
+  pub low_first : (ps : Plans) → IsNotEmpty ps → AreGoodPlans ps → (ask : Ask) (origin : Origin) (b : ℕ) → (calls : List Call) × (given : Given) × WordOfFirst ps 4 ask origin b calls given × IsLow ask.op (fails_each ask.op ps) (adds_first ps) calls given
   low_first End some good ask origin b = absurd some
   low_first (More p End) some good ask origin b =
       let c = low p good.0 ask origin b in
-      (c.0, c.1, inl (c.2, inr tt), record { failed = c.3.failed; low = c.3.low; worst = λ h. c.3.worst (both_split (fails ask.op p) true h).0; some = λ e h. ⊎_elim (λ here. c.3.some e here) (λ there. absurd (let t = (both_split (fails Add p) false there).1 in cc)) (either_split (adds p) (fails Add p && false) h) })
+      (c.0, c.1, inl (c.2, inr tt), record { failed = c.3.failed; low = c.3.low; worst = λ h. c.3.worst (both_split (can_fail ask.op p) true h).0; some = λ e h. ⊎_elim (λ here. c.3.some e here) (λ there. absurd (let t = (both_split (can_fail Add p) false there).1 in cc)) (either_split (adds p) (can_fail Add p && false) h) })
   low_first (More p (More q qs)) some good ask origin b =
       let c = low p good.0 ask origin b in
       let rest = low_first (More q qs) tt good.1 ask origin (b + length c.0) in
@@ -121,8 +121,8 @@ mutual
         record {
           failed = c.3.failed;
           low = c.3.low;
-          worst = λ h. absurd (let l = c.3.worst (both_split (fails ask.op p) (fails_each ask.op (More q qs)) h).0 in omega arith);
-          some = λ e h. ⊎_elim (λ here. c.3.some e here) (λ there. absurd (let l = c.3.worst (subst (λ o. fails o p ≡ true) (sym e) (both_split (fails Add p) (adds_first (More q qs)) there).0) in omega arith)) (either_split (adds p) (fails Add p && adds_first (More q qs)) h);
+          worst = λ h. absurd (let l = c.3.worst (both_split (can_fail ask.op p) (fails_each ask.op (More q qs)) h).0 in omega arith);
+          some = λ e h. ⊎_elim (λ here. c.3.some e here) (λ there. absurd (let l = c.3.worst (subst (λ o. can_fail o p ≡ true) (sym e) (both_split (can_fail Add p) (adds_first (More q qs)) there).0) in omega arith)) (either_split (adds p) (can_fail Add p && adds_first (More q qs)) h);
         },
       ))
       (λ (le : 4 ≤ rank c.1). (
@@ -132,14 +132,14 @@ mutual
         record {
           failed = join c.0 rest.0 c.3.failed rest.3.failed;
           low = rest.3.low;
-          worst = λ h. rest.3.worst (both_split (fails ask.op p) (fails_each ask.op (More q qs)) h).1;
-          some = λ e h. ⊎_elim (λ here. some_left c.0 rest.0 (c.3.some e here)) (λ there. some_right c.0 rest.0 (rest.3.some e (both_split (fails Add p) (adds_first (More q qs)) there).1)) (either_split (adds p) (fails Add p && adds_first (More q qs)) h);
+          worst = λ h. rest.3.worst (both_split (can_fail ask.op p) (fails_each ask.op (More q qs)) h).1;
+          some = λ e h. ⊎_elim (λ here. some_left c.0 rest.0 (c.3.some e here)) (λ there. some_right c.0 rest.0 (rest.3.some e (both_split (can_fail Add p) (adds_first (More q qs)) there).1)) (either_split (adds p) (can_fail Add p && adds_first (More q qs)) h);
         },
       ))
       (cases_lt (rank c.1) 4)
 
   -- a get over misses
-  pub low_last : (ps : Plans) → IsNotEmpty ps → AreGood ps → (ask : Ask) (origin : Origin) (b : ℕ) → (calls : List Call) × (given : Given) × WordOfFirst ps 1 ask origin b calls given × IsLow ask.op (fails_last ask.op ps) false calls given
+  pub low_last : (ps : Plans) → IsNotEmpty ps → AreGoodPlans ps → (ask : Ask) (origin : Origin) (b : ℕ) → (calls : List Call) × (given : Given) × WordOfFirst ps 1 ask origin b calls given × IsLow ask.op (fails_last ask.op ps) false calls given
   low_last End some good ask origin b = absurd some
   low_last (More p End) some good ask origin b =
       let c = low p good.0 ask origin b in
@@ -149,11 +149,11 @@ mutual
       let rest = low_last (More q qs) tt good.1 ask origin (b + length c.0) in
       (c.0 ++ rest.0, rest.1, inr (c.0, rest.0, refl, c.1, c.2, c.3.low, rest.2), record { failed = join c.0 rest.0 c.3.failed rest.3.failed; low = rest.3.low; worst = rest.3.worst; some = λ e h. absurd (cc) })
 
-  pub low_head : (ps : Plans) → IsNotEmpty ps → AreGood ps → (ask : Ask) (origin : Origin) (b : ℕ) → (calls : List Call) × (given : Given) × WordOfHead ps ask origin b calls given × IsLow ask.op (fails_head ask.op ps) (adds_head ps) calls given
+  pub low_head : (ps : Plans) → IsNotEmpty ps → AreGoodPlans ps → (ask : Ask) (origin : Origin) (b : ℕ) → (calls : List Call) × (given : Given) × WordOfHead ps ask origin b calls given × IsLow ask.op (fails_head ask.op ps) (adds_head ps) calls given
   low_head End some good ask origin b = absurd some
   low_head (More p ps) some good ask origin b = low p good.0 ask origin b
 
-  pub low_policy : (ps : PlanPolicies) → ArePoliciesGood ps → (ask : Ask) (origin : Origin) (b : ℕ) → (calls : List Call) × (given : Given) × WordOfPolicy ps ask origin b calls given × IsLow ask.op (fails_policy ask.op ps) (adds_policy ps) calls given
+  pub low_policy : (ps : PlanPolicies) → AreGoodPlanPolicies ps → (ask : Ask) (origin : Origin) (b : ℕ) → (calls : List Call) × (given : Given) × WordOfPolicy ps ask origin b calls given × IsLow ask.op (fails_policy ask.op ps) (adds_policy ps) calls given
   low_policy (Otherwise p) good ask origin b = low p good ask origin b
   low_policy (Policy o p rest) good ask origin b =
       ⊎_elim

@@ -8,10 +8,10 @@ use Rattle.route_tree.specs.Route.{Route, Routes, Policies, Prefixes, Pool, Serv
 use Rattle.route_tree.specs.At.{begins, is_longer, plain_for, plain_for_all, plain_for_policies}
 use Rattle.route_tree.specs.Chosen.{chosen}
 use Rattle.route_tree.proofs.PlainTrees.{plain_for_chosen}
-use Rattle.gate_coverage.specs.Computed.{asks_get, fails, fails_some, fails_each, fails_last, fails_head, fails_policy, hits, hits_each, hits_first, hits_some, hits_head, hits_policy, adds, adds_some, adds_first, adds_head, adds_policy}
+use Rattle.gate_coverage.specs.Computed.{asks_get, can_fail, fails_some, fails_each, fails_last, fails_head, fails_policy, hits, hits_each, hits_first, hits_some, hits_head, hits_policy, adds, adds_some, adds_first, adds_head, adds_policy}
 
 pub record Same (p q : Plan) : Type 0 where
-  pub fails_same : (op : Op) → fails op p ≡ fails op q
+  pub fails_same : (op : Op) → can_fail op p ≡ can_fail op q
   pub hits_same : (op : Op) → hits op p ≡ hits op q
   pub adds_same : adds p ≡ adds q
 
@@ -106,7 +106,7 @@ module _ (one other : ℕ) (text : List ℕ) where
           adds_head_same = a.adds_same;
         }
       where
-        last_same : (op : Op) (r : Route) (rs : Routes) → fails op (plain_for one text r) ≡ fails op (plain_for other text r) → fails_last op (plain_for_all one text rs) ≡ fails_last op (plain_for_all other text rs) → fails_last op (plain_for_all one text (More r rs)) ≡ fails_last op (plain_for_all other text (More r rs))
+        last_same : (op : Op) (r : Route) (rs : Routes) → can_fail op (plain_for one text r) ≡ can_fail op (plain_for other text r) → fails_last op (plain_for_all one text rs) ≡ fails_last op (plain_for_all other text rs) → fails_last op (plain_for_all one text (More r rs)) ≡ fails_last op (plain_for_all other text (More r rs))
         last_same op r End a h = a
         last_same op r (More q qs) a h = h
 

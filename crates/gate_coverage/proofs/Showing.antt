@@ -23,10 +23,10 @@ use Rattle.fresh_runs.specs.Calls.{Call}
 use Rattle.fresh_runs.specs.Single.{FitsOutcome}
 use Rattle.route_tree.specs.Operation.{same_op}
 use Rattle.route_tree.specs.Plan.{Plan, Plans, PlanPolicies, Server, Null, Failing, AllSync, Failover, MissFailover, WarmUp, ByOperation, End, More, Otherwise, Policy}
-use Rattle.route_tree.specs.Word.{Given, rank, given_by, plain_get, refill, is_plain_get, Word, WordOfAll, WordOfFirst, WordOfHead, WordOfPolicy, Refilled, AfterWarm, AfterCold, WarmUpWord}
+use Rattle.route_tree.specs.Word.{Given, rank, given_by, plain_get, refill, is_plain_get, PlanWord, WordOfAll, WordOfFirst, WordOfHead, WordOfPolicy, Refilled, AfterWarm, AfterCold, WarmUpWord}
 use Rattle.route_tree.proofs.Parts.{match_bool}
 use Rattle.gate_coverage.specs.Cover.{IsTaking}
-use Rattle.gate_coverage.specs.Computed.{asks_get, fails, shown, shown_each, shown_first, shown_some, shown_head, shown_policy}
+use Rattle.gate_coverage.specs.Computed.{asks_get, can_fail, shown, shown_each, shown_first, shown_some, shown_head, shown_policy}
 use Rattle.gate_coverage.proofs.Choices.{both, either_left, either_right, bool_is, if_true, if_false, true_match, false_match, by_get, only_get, only_other, is_get_of, no_get_of, HasCall, has_front, has_back, has_weaker}
 use Rattle.gate_coverage.proofs.Failing.{word_fails, none_above_hits}
 use Rattle.gate_coverage.proofs.Covering.{bare_shows_nothing}
@@ -161,7 +161,7 @@ abbrev Shown : Op → Plan → ℕ → List Call → Given → Type 0
 Shown op p = ShowsOf (λ s. shown op s p)
 
 mutual
-  pub word_shows : (p : Plan) (ask : Ask) (origin : Origin) (b : ℕ) (calls : List Call) (given : Given) → IsTaking ask.op → Word p ask origin b calls given → Shown ask.op p b calls given
+  pub word_shows : (p : Plan) (ask : Ask) (origin : Origin) (b : ℕ) (calls : List Call) (given : Given) → IsTaking ask.op → PlanWord p ask origin b calls given → Shown ask.op p b calls given
   word_shows (Server t) ask origin b calls given taking w =
       subst (λ l. ShowsOf (λ s. nat_eq t s) b l given) (sym w.2) (subst (ShowsOf (λ s. nat_eq t s) b (record { server = t; ask = ask; origin = origin; outcome = w.0 } ∷ [])) (sym w.3) (server_shows t b ask origin w.0 taking w.1))
   word_shows Null ask origin b calls given taking w = shows_none (λ s. false) b calls given (ap (λ (g : Given). g.from) w.1)
@@ -174,7 +174,7 @@ mutual
       (λ n. shows_weaker (λ s. shown_head ask.op s ps) (λ s. shown ask.op s (MissFailover ps)) b calls given (λ s h. if_false (asks_get ask.op) _ _ (no_get_of ask.op n) h) (head_shows ps ask origin b calls given taking (only_other ask.op _ _ n w)))
   word_shows (WarmUp cold warm e) ask origin b calls given taking w =
       by_get ask.op _
-      (λ op. warm_up_shows ask (Word cold ask origin) (Word warm (plain_get ask) origin) (λ hit i. Word cold (refill ask hit e) (CopyOf i)) (λ s. shown ask.op s (WarmUp cold warm e))
+      (λ op. warm_up_shows ask (PlanWord cold ask origin) (PlanWord warm (plain_get ask) origin) (λ hit i. PlanWord cold (refill ask hit e) (CopyOf i)) (λ s. shown ask.op s (WarmUp cold warm e))
       (λ b' c' g' w'. shows_weaker (λ s. shown ask.op s cold) (λ s. shown ask.op s (WarmUp cold warm e)) b' c' g' (λ s h. either_left (shown ask.op s cold) _ h) (word_shows cold ask origin b' c' g' taking w'))
       (λ b' c' g' w'. shows_weaker (λ s. shown Get s warm) (λ s. shown ask.op s (WarmUp cold warm e)) b' c' g' (λ s h. either_right (shown ask.op s cold) _ (both (asks_get ask.op) _ (is_get_of ask.op op) (subst (λ o. shown o s warm ≡ true) (sym op) h))) (word_shows warm (plain_get ask) origin b' c' g' tt w'))
       b calls given (only_get ask.op _ _ op w))
@@ -202,7 +202,7 @@ mutual
   first_shows (More p ps) ask origin b calls given taking (inr w) =
       subst (λ l. ShowsOf (λ s. shown_first ask.op s (More p ps)) b l given) (sym w.2)
       (shows_back (λ s. shown_first ask.op s (More p ps)) b w.0 w.1 given
-      (shows_weaker (λ s. shown_first ask.op s ps) (λ s. shown_first ask.op s (More p ps)) (b + length w.0) w.1 given (λ s h. either_right (shown ask.op s p) _ (both (fails ask.op p) _ (word_fails p ask origin b w.0 w.3 w.4 w.5) h)) (first_shows ps ask origin (b + length w.0) w.1 given taking w.6)))
+      (shows_weaker (λ s. shown_first ask.op s ps) (λ s. shown_first ask.op s (More p ps)) (b + length w.0) w.1 given (λ s h. either_right (shown ask.op s p) _ (both (can_fail ask.op p) _ (word_fails p ask origin b w.0 w.3 w.4 w.5) h)) (first_shows ps ask origin (b + length w.0) w.1 given taking w.6)))
 
   some_shows : (ps : Plans) (ask : Ask) (origin : Origin) (b : ℕ) (calls : List Call) (given : Given) → IsTaking ask.op → WordOfFirst ps 1 ask origin b calls given → ShowsOf (λ s. shown_some ask.op s ps) b calls given
   some_shows End ask origin b calls given taking w = absurd w

@@ -5,7 +5,7 @@ use Rattle.mc_types.specs.declared.ask.Op.TheVariants.{Get, Gat, Set, Add, Repla
 use Rattle.mc_types.specs.declared.call.Origin.TheVariants.{Client}
 use Rattle.fresh_runs.specs.Calls.{Call}
 use Rattle.route_tree.specs.Each.{IsIn}
-use Rattle.route_tree.specs.Plan.{Plan, IsGood}
+use Rattle.route_tree.specs.Plan.{Plan, IsGoodPlan}
 use Rattle.route_tree.specs.Servers.{servers}
 use Rattle.route_tree.specs.Word.{Given}
 use Rattle.route_tree.proofs.Parts.{each_at}
@@ -15,7 +15,7 @@ use Rattle.gate_coverage.specs.Computed.{takes_server, is_taken}
 use Rattle.gate_coverage.proofs.Choices.{either_left, either_right, either_split}
 use Rattle.gate_coverage.proofs.Finding.{taken_is_exact}
 
-module _ (plain : Plan) (good : IsGood plain) where
+module _ (plain : Plan) (good : IsGoodPlan plain) where
   pub takes : (op : Op) (s : ℕ) → IsTaking op → takes_server plain op s ≡ true → is_taken plain s ≡ true
   takes Get s t h = either_left (takes_server plain Get s || takes_server plain Gat s || takes_server plain Incr s) _ (either_left (takes_server plain Get s || takes_server plain Gat s) _ (either_left (takes_server plain Get s) _ h))
   takes Gat s t h = either_left (takes_server plain Get s || takes_server plain Gat s || takes_server plain Incr s) _ (either_left (takes_server plain Get s || takes_server plain Gat s) _ (either_right (takes_server plain Get s) _ h))

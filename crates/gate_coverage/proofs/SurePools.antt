@@ -8,7 +8,7 @@ use Rattle.route_tree.specs.Route.{Route, Routes, Policies, Prefixes, Pool, Serv
 use Rattle.route_tree.specs.At.{begins, is_longer, plain_for, plain_for_all, plain_for_policies}
 use Rattle.route_tree.specs.Chosen.{chosen}
 use Rattle.route_tree.proofs.PlainTrees.{plain_for_chosen}
-use Rattle.gate_coverage.specs.Computed.{fails, kept, kept_each, kept_first, kept_head, kept_policy}
+use Rattle.gate_coverage.specs.Computed.{can_fail, kept, kept_each, kept_first, kept_head, kept_policy}
 use Rattle.gate_coverage.specs.Doubted.{doubts, doubts_each, doubts_first, doubts_head, doubts_policy, doubts_prefixes, with_doubted, doubted_pools}
 use Rattle.gate_coverage.specs.Pools.{pool_server_at}
 use Rattle.gate_coverage.proofs.SamePossible.{same}
@@ -105,9 +105,9 @@ module _ (text : List ℕ) (pool : List ℕ) where
       first_sure : (rs : Routes) → doubts_first text pool rs ≡ false → kept_first Delete (pool_server_at hash pool) (plain_for_all hash text rs) ≡ false
       first_sure End h = refl
       first_sure (More r rs) h =
-          let g : (fails Delete (plain_for 0 text r) && doubts_first text pool rs) ≡ false → (fails Delete (plain_for hash text r) && kept_first Delete (pool_server_at hash pool) (plain_for_all hash text rs)) ≡ false =
-          λ k. under (fails Delete (plain_for hash text r)) (doubts_first text pool rs) (kept_first Delete (pool_server_at hash pool) (plain_for_all hash text rs)) (first_sure rs) (subst (λ (f : Bool). (f && doubts_first text pool rs) ≡ false) ((same 0 hash text r).fails_same Delete) k) in
-          or_less (doubts text pool r) (fails Delete (plain_for 0 text r) && doubts_first text pool rs) (kept Delete (pool_server_at hash pool) (plain_for hash text r)) (fails Delete (plain_for hash text r) && kept_first Delete (pool_server_at hash pool) (plain_for_all hash text rs)) (sure r) g h
+          let g : (can_fail Delete (plain_for 0 text r) && doubts_first text pool rs) ≡ false → (can_fail Delete (plain_for hash text r) && kept_first Delete (pool_server_at hash pool) (plain_for_all hash text rs)) ≡ false =
+          λ k. under (can_fail Delete (plain_for hash text r)) (doubts_first text pool rs) (kept_first Delete (pool_server_at hash pool) (plain_for_all hash text rs)) (first_sure rs) (subst (λ (f : Bool). (f && doubts_first text pool rs) ≡ false) ((same 0 hash text r).fails_same Delete) k) in
+          or_less (doubts text pool r) (can_fail Delete (plain_for 0 text r) && doubts_first text pool rs) (kept Delete (pool_server_at hash pool) (plain_for hash text r)) (can_fail Delete (plain_for hash text r) && kept_first Delete (pool_server_at hash pool) (plain_for_all hash text rs)) (sure r) g h
 
       head_sure : (rs : Routes) → doubts_head text pool rs ≡ false → kept_head Delete (pool_server_at hash pool) (plain_for_all hash text rs) ≡ false
       head_sure End h = refl

@@ -10,8 +10,8 @@ use Rattle.route_tree.specs.Route.{Route, Routes, Policies, Prefixes, Pool, Serv
 use Rattle.route_tree.specs.At.{begins, is_longer, plain_for, plain_for_all, plain_for_policies}
 use Rattle.route_tree.specs.Chosen.{chosen}
 use Rattle.route_tree.proofs.PlainTrees.{plain_for_chosen}
-use Rattle.gate_coverage.specs.Computed.{asks_get, takes_server, fails, hits_each, adds, shown, shown_each, shown_first, shown_some, shown_head, shown_policy, copied, copied_some, copied_first, copied_head, copied_policy, is_taken}
-use Rattle.gate_coverage.specs.Pools.{has, pool_server_at, servers_at, pools_of, pools_of_each, pools_of_some, pools_of_first, pools_of_head, pools_of_policy, pools_of_prefixes, has_pool, with_pool, distinct_after, sought_pools, taken_pools}
+use Rattle.gate_coverage.specs.Computed.{asks_get, takes_server, can_fail, hits_each, adds, shown, shown_each, shown_first, shown_some, shown_head, shown_policy, copied, copied_some, copied_first, copied_head, copied_policy, is_taken}
+use Rattle.gate_coverage.specs.Pools.{has, pool_server_at, servers_at, shown_pools, pools_of_each, pools_of_some, pools_of_first, pools_of_head, pools_of_policy, pools_of_prefixes, has_pool, with_pool, distinct_after, sought_pools, taken_pools}
 use Rattle.gate_coverage.proofs.SamePossible.{same, all_same}
 
 pub has_append : (xs ys : List ℕ) (s : ℕ) → has (xs ++ ys) s ≡ (has xs s || has ys s)
@@ -104,9 +104,9 @@ warm_parts true sh co s c a x y = warm sh co s c a x y
 module _ (text : List ℕ) (op : Op) where
   abbrev pools_best : (sh co : Bool) → Option (List ℕ × Route) → Option (List ℕ × List (List ℕ))
   pools_best sh co None = None
-  pools_best sh co (Some best) = Some (best.0, pools_of text op sh co best.1)
+  pools_best sh co (Some best) = Some (best.0, shown_pools text op sh co best.1)
 
-  best_of : (sh co b : Bool) (p : List ℕ) (r : Route) (best : Option (List ℕ × Route)) → cond b (Some (p, pools_of text op sh co r)) (pools_best sh co best) ≡ pools_best sh co (cond b (Some (p, r)) best)
+  best_of : (sh co b : Bool) (p : List ℕ) (r : Route) (best : Option (List ℕ × Route)) → cond b (Some (p, shown_pools text op sh co r)) (pools_best sh co best) ≡ pools_best sh co (cond b (Some (p, r)) best)
   best_of sh co true p r best = refl
   best_of sh co false p r best = refl
 
@@ -114,16 +114,16 @@ module _ (text : List ℕ) (op : Op) where
   same_longer sh co p None = refl
   same_longer sh co p (Some best) = refl
 
-  pools_of_best : (sh co : Bool) (ps : Prefixes) (best : Option (List ℕ × Route)) → pools_of_prefixes text op sh co ps (pools_best sh co best) ≡ pools_of text op sh co (chosen text ps best)
+  pools_of_best : (sh co : Bool) (ps : Prefixes) (best : Option (List ℕ × Route)) → pools_of_prefixes text op sh co ps (pools_best sh co best) ≡ shown_pools text op sh co (chosen text ps best)
   pools_of_best sh co (Wildcard r) None = refl
   pools_of_best sh co (Wildcard r) (Some best) = refl
   pools_of_best sh co (Prefix p r ps) best =
-      ap (λ b. pools_of_prefixes text op sh co ps (cond (begins p text && b) (Some (p, pools_of text op sh co r)) (pools_best sh co best))) (same_longer sh co p best)
+      ap (λ b. pools_of_prefixes text op sh co ps (cond (begins p text && b) (Some (p, shown_pools text op sh co r)) (pools_best sh co best))) (same_longer sh co p best)
       ∙ ap (pools_of_prefixes text op sh co ps) (best_of sh co (begins p text && is_longer p best) p r best)
       ∙ pools_of_best sh co ps (cond (begins p text && is_longer p best) (Some (p, r)) best)
 
   -- the pools of a selector are those of the route that it chooses
-  pub pools_of_chosen : (sh co : Bool) (ps : Prefixes) → pools_of text op sh co (ByPrefix ps) ≡ pools_of text op sh co (chosen text ps None)
+  pub pools_of_chosen : (sh co : Bool) (ps : Prefixes) → shown_pools text op sh co (ByPrefix ps) ≡ shown_pools text op sh co (chosen text ps None)
   pools_of_chosen sh co ps = pools_of_best sh co ps None
 
   module _ (hash s : ℕ) where
@@ -151,7 +151,7 @@ module _ (text : List ℕ) (op : Op) where
     alone x = rw (mod_one hash) refl
 
     abbrev IsThere : Route → Type 0
-    IsThere r = (sh co : Bool) → there (pools_of text op sh co r) ≡ part sh co (shown op s (plain_for hash text r)) (copied op s (plain_for hash text r))
+    IsThere r = (sh co : Bool) → there (shown_pools text op sh co r) ≡ part sh co (shown op s (plain_for hash text r)) (copied op s (plain_for hash text r))
 
     abbrev BestThere : Option (List ℕ × Route) → Type 0
     BestThere None = Unit {0}
@@ -162,7 +162,7 @@ module _ (text : List ℕ) (op : Op) where
     best_there false p r best h k = k
 
     mutual
-      pub all_there : (r : Route) (sh co : Bool) → there (pools_of text op sh co r) ≡ part sh co (shown op s (plain_for hash text r)) (copied op s (plain_for hash text r))
+      pub all_there : (r : Route) (sh co : Bool) → there (shown_pools text op sh co r) ≡ part sh co (shown op s (plain_for hash text r)) (copied op s (plain_for hash text r))
       all_there (Pool servers) sh co = one_pool sh co servers
       all_there (Server x) sh co = one_pool sh co (x ∷ []) ∙ ap (λ n. part sh co (nat_eq n s) false) (alone x)
       all_there Null sh co = none sh co
@@ -171,8 +171,8 @@ module _ (text : List ℕ) (op : Op) where
       all_there (Failover rs) sh co = first_there rs sh co
       all_there (MissFailover rs) sh co = either_one (asks_get op) sh co (pools_of_some text op sh co rs) (pools_of_head text op sh co rs) (shown_some op s (plain_for_all hash text rs)) (copied_some op s (plain_for_all hash text rs)) (shown_head op s (plain_for_all hash text rs)) (copied_head op s (plain_for_all hash text rs)) (some_there rs sh co) (head_there rs sh co)
       all_there (WarmUp cold warm e) sh co =
-          there_append (pools_of text op sh co cold) (cond (asks_get op) (pools_of text op (sh || (co && adds (plain_for 0 text cold))) co warm) [])
-          ∙ ap₂ (λ x y. x || y) (all_there cold sh co) (there_if (asks_get op) (pools_of text op (sh || (co && adds (plain_for 0 text cold))) co warm) ∙ ap (λ b. cond (asks_get op) b false) (all_there warm (sh || (co && adds (plain_for 0 text cold))) co))
+          there_append (shown_pools text op sh co cold) (cond (asks_get op) (shown_pools text op (sh || (co && adds (plain_for 0 text cold))) co warm) [])
+          ∙ ap₂ (λ x y. x || y) (all_there cold sh co) (there_if (asks_get op) (shown_pools text op (sh || (co && adds (plain_for 0 text cold))) co warm) ∙ ap (λ b. cond (asks_get op) b false) (all_there warm (sh || (co && adds (plain_for 0 text cold))) co))
           ∙ ap (λ a. part sh co (shown op s (plain_for hash text cold)) (copied op s (plain_for hash text cold)) || cond (asks_get op) (part (sh || (co && a)) co (shown op s (plain_for hash text warm)) (copied op s (plain_for hash text warm))) false) (same 0 hash text cold).adds_same
           ∙ warm_parts (asks_get op) sh co (shown op s (plain_for hash text cold)) (copied op s (plain_for hash text cold)) (adds (plain_for hash text cold)) (shown op s (plain_for hash text warm)) (copied op s (plain_for hash text warm))
       all_there (ByOperation ps) sh co = policy_there ps sh co
@@ -183,7 +183,7 @@ module _ (text : List ℕ) (op : Op) where
       each_there : (rs : Routes) (sh co : Bool) → there (pools_of_each text op sh co rs) ≡ part sh co (shown_each op s (plain_for_all hash text rs)) (copied_some op s (plain_for_all hash text rs))
       each_there End sh co = none sh co
       each_there (More r rs) sh co =
-          there_append (pools_of text op (sh && hits_each op (plain_for_all 0 text rs)) co r) (pools_of_some text op false co rs)
+          there_append (shown_pools text op (sh && hits_each op (plain_for_all 0 text rs)) co r) (pools_of_some text op false co rs)
           ∙ ap₂ (λ x y. x || y) (all_there r (sh && hits_each op (plain_for_all 0 text rs)) co) (some_there rs false co)
           ∙ ap (λ h. part (sh && h) co (shown op s (plain_for hash text r)) (copied op s (plain_for hash text r)) || part false co (shown_some op s (plain_for_all hash text rs)) (copied_some op s (plain_for_all hash text rs))) ((all_same 0 hash text rs).hits_each_same op)
           ∙ each_parts sh co (hits_each op (plain_for_all hash text rs)) (shown op s (plain_for hash text r)) (copied op s (plain_for hash text r)) (shown_some op s (plain_for_all hash text rs)) (copied_some op s (plain_for_all hash text rs))
@@ -191,16 +191,16 @@ module _ (text : List ℕ) (op : Op) where
       some_there : (rs : Routes) (sh co : Bool) → there (pools_of_some text op sh co rs) ≡ part sh co (shown_some op s (plain_for_all hash text rs)) (copied_some op s (plain_for_all hash text rs))
       some_there End sh co = none sh co
       some_there (More r rs) sh co =
-          there_append (pools_of text op sh co r) (pools_of_some text op sh co rs)
+          there_append (shown_pools text op sh co r) (pools_of_some text op sh co rs)
           ∙ ap₂ (λ x y. x || y) (all_there r sh co) (some_there rs sh co)
           ∙ some_parts sh co (shown op s (plain_for hash text r)) (copied op s (plain_for hash text r)) (shown_some op s (plain_for_all hash text rs)) (copied_some op s (plain_for_all hash text rs))
 
       first_there : (rs : Routes) (sh co : Bool) → there (pools_of_first text op sh co rs) ≡ part sh co (shown_first op s (plain_for_all hash text rs)) (copied_first op s (plain_for_all hash text rs))
       first_there End sh co = none sh co
       first_there (More r rs) sh co =
-          there_append (pools_of text op sh co r) (cond (fails op (plain_for 0 text r)) (pools_of_first text op sh co rs) [])
-          ∙ ap₂ (λ x y. x || y) (all_there r sh co) (there_if (fails op (plain_for 0 text r)) (pools_of_first text op sh co rs) ∙ ap₂ (λ f b. cond f b false) ((same 0 hash text r).fails_same op) (first_there rs sh co))
-          ∙ first_parts (fails op (plain_for hash text r)) sh co (shown op s (plain_for hash text r)) (copied op s (plain_for hash text r)) (shown_first op s (plain_for_all hash text rs)) (copied_first op s (plain_for_all hash text rs))
+          there_append (shown_pools text op sh co r) (cond (can_fail op (plain_for 0 text r)) (pools_of_first text op sh co rs) [])
+          ∙ ap₂ (λ x y. x || y) (all_there r sh co) (there_if (can_fail op (plain_for 0 text r)) (pools_of_first text op sh co rs) ∙ ap₂ (λ f b. cond f b false) ((same 0 hash text r).fails_same op) (first_there rs sh co))
+          ∙ first_parts (can_fail op (plain_for hash text r)) sh co (shown op s (plain_for hash text r)) (copied op s (plain_for hash text r)) (shown_first op s (plain_for_all hash text rs)) (copied_first op s (plain_for_all hash text rs))
 
       head_there : (rs : Routes) (sh co : Bool) → there (pools_of_head text op sh co rs) ≡ part sh co (shown_head op s (plain_for_all hash text rs)) (copied_head op s (plain_for_all hash text rs))
       head_there End sh co = none sh co
@@ -208,7 +208,7 @@ module _ (text : List ℕ) (op : Op) where
 
       policy_there : (ps : Policies) (sh co : Bool) → there (pools_of_policy text op sh co ps) ≡ part sh co (shown_policy op s (plain_for_policies hash text ps)) (copied_policy op s (plain_for_policies hash text ps))
       policy_there (Otherwise r) sh co = all_there r sh co
-      policy_there (Policy o r ps) sh co = either_one (same_op o op) sh co (pools_of text op sh co r) (pools_of_policy text op sh co ps) (shown op s (plain_for hash text r)) (copied op s (plain_for hash text r)) (shown_policy op s (plain_for_policies hash text ps)) (copied_policy op s (plain_for_policies hash text ps)) (all_there r sh co) (policy_there ps sh co)
+      policy_there (Policy o r ps) sh co = either_one (same_op o op) sh co (shown_pools text op sh co r) (pools_of_policy text op sh co ps) (shown op s (plain_for hash text r)) (copied op s (plain_for hash text r)) (shown_policy op s (plain_for_policies hash text ps)) (copied_policy op s (plain_for_policies hash text ps)) (all_there r sh co) (policy_there ps sh co)
 
       chosen_there : (ps : Prefixes) (best : Option (List ℕ × Route)) → BestThere best → IsThere (chosen text ps best)
       chosen_there (Wildcard r) None h = all_there r
@@ -218,24 +218,24 @@ module _ (text : List ℕ) (op : Op) where
 -- ---- the four operations
 
 module _ (text : List ℕ) (hash s : ℕ) where
-  at_get : (r : Route) → has (servers_at hash (pools_of text Get true true r)) s ≡ takes_server (plain_for hash text r) Get s
+  at_get : (r : Route) → has (servers_at hash (shown_pools text Get true true r)) s ≡ takes_server (plain_for hash text r) Get s
   at_get r = all_there text Get hash s r true true
 
-  at_gat : (r : Route) → has (servers_at hash (pools_of text Gat true false r)) s ≡ takes_server (plain_for hash text r) Gat s
+  at_gat : (r : Route) → has (servers_at hash (shown_pools text Gat true false r)) s ≡ takes_server (plain_for hash text r) Gat s
   at_gat r = all_there text Gat hash s r true false
 
-  at_incr : (r : Route) → has (servers_at hash (pools_of text Incr true false r)) s ≡ takes_server (plain_for hash text r) Incr s
+  at_incr : (r : Route) → has (servers_at hash (shown_pools text Incr true false r)) s ≡ takes_server (plain_for hash text r) Incr s
   at_incr r = all_there text Incr hash s r true false
 
-  at_decr : (r : Route) → has (servers_at hash (pools_of text Decr true false r)) s ≡ takes_server (plain_for hash text r) Decr s
+  at_decr : (r : Route) → has (servers_at hash (shown_pools text Decr true false r)) s ≡ takes_server (plain_for hash text r) Decr s
   at_decr r = all_there text Decr hash s r true false
 
   sought_are_taken : (r : Route) → has (servers_at hash (sought_pools text r)) s ≡ is_taken (plain_for hash text r) s
   sought_are_taken r =
-      let a = pools_of text Get true true r in
-      let b = pools_of text Gat true false r in
-      let c = pools_of text Incr true false r in
-      let d = pools_of text Decr true false r in
+      let a = shown_pools text Get true true r in
+      let b = shown_pools text Gat true false r in
+      let c = shown_pools text Incr true false r in
+      let d = shown_pools text Decr true false r in
       there_append text Decr hash s (a ++ b ++ c) d
       ∙ ap₂ (λ x y. x || y)
       (there_append text Incr hash s (a ++ b) c

@@ -3,7 +3,7 @@ use Rattle.std.specs.Prelude.{Bool, true, false, ◌&&◌, ◌||◌, if◌then�
 use Rattle.mc_types.specs.declared.ask.Op.{Op}
 use Rattle.route_tree.specs.Operation.{same_op}
 use Rattle.route_tree.specs.Plan.{Plan, Plans, PlanPolicies, Server, Null, Failing, AllSync, Failover, MissFailover, WarmUp, ByOperation, End, More, Otherwise, Policy}
-use Rattle.gate_coverage.specs.Computed.{asks_get, fails}
+use Rattle.gate_coverage.specs.Computed.{asks_get, can_fail}
 
 module _ (op : Op) where
   abbrev mutual
@@ -23,7 +23,7 @@ module _ (op : Op) where
 
     pub asks_first : Plans → Bool
     asks_first End = false
-    asks_first (More p ps) = asks p || (fails op p && asks_first ps)
+    asks_first (More p ps) = asks p || (can_fail op p && asks_first ps)
 
     pub asks_head : Plans → Bool
     asks_head End = false

@@ -15,36 +15,36 @@ is_taking op = same_op op Get || same_op op Gat || same_op op Incr || same_op op
 module _ (op : Op) where
   abbrev mutual
     -- the reply can be the error of a server or a call: it is so where all calls fail
-    pub fails : Plan → Bool
-    fails (Server t) = true
-    fails Null = false
-    fails Failing = true
-    fails (AllSync ps) = fails_some ps
-    fails (Failover ps) = fails_each ps
-    fails (MissFailover ps) = if asks_get op then fails_last ps else fails_head ps
-    fails (WarmUp cold warm e) = fails cold
-    fails (ByOperation ps) = fails_policy ps
+    pub can_fail : Plan → Bool
+    can_fail (Server t) = true
+    can_fail Null = false
+    can_fail Failing = true
+    can_fail (AllSync ps) = fails_some ps
+    can_fail (Failover ps) = fails_each ps
+    can_fail (MissFailover ps) = if asks_get op then fails_last ps else fails_head ps
+    can_fail (WarmUp cold warm e) = can_fail cold
+    can_fail (ByOperation ps) = fails_policy ps
 
     pub fails_some : Plans → Bool
     fails_some End = false
-    fails_some (More p ps) = fails p || fails_some ps
+    fails_some (More p ps) = can_fail p || fails_some ps
 
     pub fails_each : Plans → Bool
     fails_each End = true
-    fails_each (More p ps) = fails p && fails_each ps
+    fails_each (More p ps) = can_fail p && fails_each ps
 
     pub fails_last : Plans → Bool
     fails_last End = false
-    fails_last (More p End) = fails p
+    fails_last (More p End) = can_fail p
     fails_last (More p (More q qs)) = fails_last (More q qs)
 
     pub fails_head : Plans → Bool
     fails_head End = false
-    fails_head (More p ps) = fails p
+    fails_head (More p ps) = can_fail p
 
     pub fails_policy : PlanPolicies → Bool
-    fails_policy (Otherwise p) = fails p
-    fails_policy (Policy o p rest) = if same_op o op then fails p else fails_policy rest
+    fails_policy (Otherwise p) = can_fail p
+    fails_policy (Policy o p rest) = if same_op o op then can_fail p else fails_policy rest
 
   abbrev mutual
     -- the reply can be a hit, or that it was done
@@ -64,7 +64,7 @@ module _ (op : Op) where
 
     pub hits_first : Plans → Bool
     hits_first End = false
-    hits_first (More p ps) = hits p || (fails p && hits_first ps)
+    hits_first (More p ps) = hits p || (can_fail p && hits_first ps)
 
     pub hits_some : Plans → Bool
     hits_some End = false
@@ -98,7 +98,7 @@ module _ (op : Op) where
 
       pub shown_first : Plans → Bool
       shown_first End = false
-      shown_first (More p ps) = shown p || (fails p && shown_first ps)
+      shown_first (More p ps) = shown p || (can_fail p && shown_first ps)
 
       pub shown_some : Plans → Bool
       shown_some End = false
@@ -130,7 +130,7 @@ abbrev mutual
 
   pub adds_first : Plans → Bool
   adds_first End = false
-  adds_first (More p ps) = adds p || (fails Add p && adds_first ps)
+  adds_first (More p ps) = adds p || (can_fail Add p && adds_first ps)
 
   pub adds_head : Plans → Bool
   adds_head End = false
@@ -159,7 +159,7 @@ module _ (op : Op) (s : ℕ) where
 
     pub copied_first : Plans → Bool
     copied_first End = false
-    copied_first (More p ps) = copied p || (fails op p && copied_first ps)
+    copied_first (More p ps) = copied p || (can_fail op p && copied_first ps)
 
     pub copied_head : Plans → Bool
     copied_head End = false
@@ -188,7 +188,7 @@ module _ (op : Op) (s : ℕ) where
 
     pub kept_first : Plans → Bool
     kept_first End = false
-    kept_first (More p ps) = kept p || (fails op p && kept_first ps)
+    kept_first (More p ps) = kept p || (can_fail op p && kept_first ps)
 
     pub kept_head : Plans → Bool
     kept_head End = false

@@ -12,7 +12,7 @@ use Rattle.mc_types.specs.Asks.{IsAsk}
 use Rattle.fresh_runs.specs.Calls.{Call}
 use Rattle.fresh_runs.specs.Cover.{TakesIn, ClearsIn}
 use Rattle.route_tree.specs.Plan.{Plan}
-use Rattle.route_tree.specs.Word.{Word}
+use Rattle.route_tree.specs.Word.{PlanWord}
 use Rattle.gate_coverage.specs.declared.deleting.Deleting.{Deleting}
 use Rattle.gate_coverage.specs.declared.deleting.Deleting.TheVariants as kinds
 
@@ -35,7 +35,7 @@ IsTaking Touch = ⊥
 abbrev pub Takes : Plan → Op → ℕ → Type 0
 Takes plain op server =
     (ask : Ask) × IsAsk ask × (ask.op ≡ op) × (calls : List Call) × (reply : Answer) × (from : Option ℕ)
-    × Word plain ask Client 0 calls (record { reply = reply; from = from }) × TakesIn calls from server
+    × PlanWord plain ask Client 0 calls (record { reply = reply; from = from }) × TakesIn calls from server
 
 -- `delete` is of the classic dialect, `md` of the meta one
 abbrev pub deleting_dialect : Deleting → Dialect
@@ -46,7 +46,7 @@ deleting_dialect kinds.Md = dialects.Meta
 abbrev pub Clears : Plan → Deleting → ℕ → Type 0
 Clears plain kind server =
     (ask : Ask) → IsAsk ask → ask.op ≡ Delete → ask.dialect ≡ deleting_dialect kind → (calls : List Call) (reply : Answer) (from : Option ℕ)
-    → Word plain ask Client 0 calls (record { reply = reply; from = from }) → Acknowledges ask reply → ClearsIn calls server
+    → PlanWord plain ask Client 0 calls (record { reply = reply; from = from }) → Acknowledges ask reply → ClearsIn calls server
 
 -- each server that the later tree takes is cleared by the earlier one, whichever delete is asked
 abbrev pub Covers : Plan → Plan → Type 0

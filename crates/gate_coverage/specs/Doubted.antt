@@ -5,7 +5,7 @@ use Rattle.mc_types.specs.declared.ask.Op.TheVariants.{Delete}
 use Rattle.route_tree.specs.Operation.{same_op}
 use Rattle.route_tree.specs.Route.{Route, Routes, Policies, Prefixes, Pool, Server, Null, Failing, AllSync, Failover, MissFailover, WarmUp, ByOperation, ByPrefix, End, More, Otherwise, Policy, Wildcard, Prefix}
 use Rattle.route_tree.specs.At.{begins, is_longer, best_or, plain_for}
-use Rattle.gate_coverage.specs.Computed.{fails}
+use Rattle.gate_coverage.specs.Computed.{can_fail}
 
 module _ (text : List ℕ) (pool : List ℕ) where
   abbrev mutual
@@ -28,7 +28,7 @@ module _ (text : List ℕ) (pool : List ℕ) where
 
     pub doubts_first : Routes → Bool
     doubts_first End = false
-    doubts_first (More r rs) = doubts r || (fails Delete (plain_for 0 text r) && doubts_first rs)
+    doubts_first (More r rs) = doubts r || (can_fail Delete (plain_for 0 text r) && doubts_first rs)
 
     pub doubts_head : Routes → Bool
     doubts_head End = false

@@ -3,7 +3,7 @@
 ghost use Rattle.std.specs.Prelude.{◌≡◌, ◌++◌, ◌∷◌, [], ◌<◌, true, if◌then◌else◌, IfOk, length};
 ghost use Rattle.std.specs.Str.{bytes_eq};
 ghost use Rattle.route_tree.specs.Form.{routes_of, policies_of};
-ghost use Rattle.gate_coverage.specs.Pools.{pool_server_at, pools_of, pools_of_each, pools_of_some, pools_of_first, pools_of_head, pools_of_policy, has_pool, with_pool, distinct_after, sought_pools, taken_pools};
+ghost use Rattle.gate_coverage.specs.Pools.{pool_server_at, shown_pools, pools_of_each, pools_of_some, pools_of_first, pools_of_head, pools_of_policy, has_pool, with_pool, distinct_after, sought_pools, taken_pools};
 
 use crate::possible::{adds_at, fails_at, hits_at_each};
 use crate::stores::is_op;
@@ -86,7 +86,7 @@ fn add_pools<'a>(
     sought: Sought,
     pools: &mut Vec<Pool<'a>>,
 ) -> Result<(), AllocError>
-    ensures { IfOk result (λ _. pools.new.items ≡ pools.old.items ++ pools_of text.now sought.op sought.shows sought.copies tree.now) }
+    ensures { IfOk result (λ _. pools.new.items ≡ pools.old.items ++ shown_pools text.now sought.op sought.shows sought.copies tree.now) }
 {
     match tree.form() {
         TreeForm::Pool(servers) => add_pool(servers, sought, pools)?,

@@ -4,7 +4,7 @@ ghost use Rattle.std.specs.Prelude.{◌≡◌, ◌||◌, ◌&&◌};
 ghost use Rattle.mc_types.specs.declared.ask.Op.TheVariants.{Add};
 ghost use Rattle.route_tree.specs.Form.{routes_of};
 ghost use Rattle.route_tree.specs.At.{plain_for, plain_for_all};
-ghost use Rattle.gate_coverage.specs.Computed.{adds, kept, kept_each, kept_first, kept_head, fails, fails_some, fails_each, fails_last, fails_head, hits, hits_each, hits_first, hits_some, hits_head, shown, shown_each, shown_first, shown_some, shown_head, copied, copied_some, copied_first, copied_head};
+ghost use Rattle.gate_coverage.specs.Computed.{adds, kept, kept_each, kept_first, kept_head, can_fail, fails_some, fails_each, fails_last, fails_head, hits, hits_each, hits_first, hits_some, hits_head, shown, shown_each, shown_first, shown_some, shown_head, copied, copied_some, copied_first, copied_head};
 ghost use Rattle.gate_coverage.specs.Asked.{asks, asks_some, asks_first, asks_head};
 ghost use Rattle.gate_coverage.specs.Seen.{plan_of, all_plans_of};
 
@@ -43,7 +43,7 @@ const SILENT: Possible = Possible {
 /// What can come of the operation at the plain tree. It takes no memory.
 #[cycle(possible_at)]
 pub fn possible_at(seen: Seen, op: Op, server: ServerId) -> Possible
-    ensures fails { result.fails ≡ fails op (plan_of seen.entry) }
+    ensures fails { result.fails ≡ can_fail op (plan_of seen.entry) }
     ensures hits { result.hits ≡ hits op (plan_of seen.entry) }
     ensures shows { result.shows ≡ shown op server (plan_of seen.entry) }
     ensures copies { result.copies ≡ copied op server (plan_of seen.entry) }
@@ -220,7 +220,7 @@ fn any_server() -> ServerId {
 
 /// Whether the operation can fail for the keys that the text begins: the same for each hash. It takes no memory.
 pub fn fails_at(tree: &Tree, text: &[u8], op: Op) -> bool
-    ensures { result ≡ fails op (plain_for 0 text.now tree.now) }
+    ensures { result ≡ can_fail op (plain_for 0 text.now tree.now) }
 {
     let at = At {
         text,

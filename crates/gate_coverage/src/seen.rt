@@ -5,7 +5,7 @@ ghost use Rattle.route_tree.specs.Plan.{IsPlan, End};
 ghost use Rattle.route_tree.specs.Form.{policies_of, plan_policies_of};
 ghost use Rattle.route_tree.specs.PlanCode.{plan_size};
 ghost use Rattle.route_tree.specs.At.{plain_for, plain_for_policies};
-ghost use Rattle.gate_coverage.specs.Computed.{fails, hits, shown, copied, kept};
+ghost use Rattle.gate_coverage.specs.Computed.{can_fail, hits, shown, copied, kept};
 ghost use Rattle.gate_coverage.specs.Asked.{asks};
 ghost use Rattle.gate_coverage.specs.Seen.{plan_of, all_plans_of, plans_of_parts, plan_of_seen_form, is_end, for_op, policy_for_op};
 
@@ -59,7 +59,7 @@ pub enum SeenForm<'a> {
 impl<'a> Seen<'a> {
     /// The form for the operation: the same comes of it by the operation. It takes no memory.
     pub fn form(self, op: Op) -> SeenForm<'a>
-        ensures fails { fails op (plan_of_seen_form result) ≡ fails op (plan_of self.entry) }
+        ensures fails { can_fail op (plan_of_seen_form result) ≡ can_fail op (plan_of self.entry) }
         ensures hits { hits op (plan_of_seen_form result) ≡ hits op (plan_of self.entry) }
         ensures shows { (s : ℕ) → shown op s (plan_of_seen_form result) ≡ shown op s (plan_of self.entry) }
         ensures copies { (s : ℕ) → copied op s (plan_of_seen_form result) ≡ copied op s (plan_of self.entry) }

@@ -15,7 +15,7 @@ use Rattle.route_tree.specs.Word.{answer_of_nothing}
 use Rattle.gate_coverage.specs.declared.deleting.Deleting.{Deleting}
 use Rattle.gate_coverage.specs.declared.deleting.Deleting.TheVariants as kinds
 use Rattle.gate_coverage.specs.Cover.{IsTaking, deleting_dialect}
-use Rattle.gate_gaps.specs.Turns.{acks, finds}
+use Rattle.gate_gaps.specs.Turns.{acks, calls_before_found}
 use Rattle.gate_gaps.specs.Leaking.{IsBait}
 use Rattle.gate_gaps.specs.Bait.{delete_of, read_of, bait, bait_answer, IsBaited, NumbersLeak, GapsHaveLeaks, BaitIsTaken}
 use Rattle.gate_gaps.proofs.Beside.{gaps_have_words}
@@ -81,7 +81,7 @@ numbers_leak Bars at opening key op kind s i j k h good1 good2 baited e f =
 gaps_have_leaks : (Bars : ℕ → Ask → ℕ → Ask → Type 0) → GapsHaveLeaks Bars
 gaps_have_leaks Bars at opening key op kind s k h good1 good2 baited direct1 direct2 takes leaves =
     let i = some_number (acks s (at 1 key)) (gaps_have_words.kept (at 1 key) s kind good1 direct1 leaves) in
-    let j = some_number (finds op s (at 2 key)) (gaps_have_words.taken (at 2 key) op s good2 direct2 takes) in
+    let j = some_number (calls_before_found op s (at 2 key)) (gaps_have_words.taken (at 2 key) op s good2 direct2 takes) in
     (i.0, j.0, i.1, j.1, numbers_leak Bars at opening key op kind s i.0 j.0 k h good1 good2 baited i.1 j.1)
 
 pub bait_is_taken : (Bars : ℕ → Ask → ℕ → Ask → Type 0) → BaitIsTaken Bars

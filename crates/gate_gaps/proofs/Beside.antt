@@ -15,15 +15,15 @@ use Rattle.mc_types.specs.Shows.{shows}
 use Rattle.fresh_runs.specs.Calls.{Call}
 use Rattle.route_tree.specs.Each.{Each}
 use Rattle.route_tree.specs.Operation.{same_op}
-use Rattle.route_tree.specs.Plan.{Plan, Plans, PlanPolicies, Server, Null, Failing, AllSync, Failover, MissFailover, WarmUp, ByOperation, End, More, Otherwise, Policy, IsGood, AreGood, ArePoliciesGood}
-use Rattle.route_tree.specs.Word.{Given, given_by, null_reply, answer_of_nothing, Word, WordOfFirst, WordOfHead, WordOfPolicy}
+use Rattle.route_tree.specs.Plan.{Plan, Plans, PlanPolicies, Server, Null, Failing, AllSync, Failover, MissFailover, WarmUp, ByOperation, End, More, Otherwise, Policy, IsGoodPlan, AreGoodPlans, AreGoodPlanPolicies}
+use Rattle.route_tree.specs.Word.{Given, given_by, null_reply, answer_of_nothing, PlanWord, WordOfFirst, WordOfHead, WordOfPolicy}
 use Rattle.route_tree.proofs.Places.{each_append}
-use Rattle.gate_coverage.specs.Computed.{asks_get, is_taking, fails, kept, kept_first, kept_head, kept_policy, shown, shown_first, shown_some, shown_head, shown_policy, copied, copied_some, copied_first, copied_head, copied_policy}
+use Rattle.gate_coverage.specs.Computed.{asks_get, is_taking, can_fail, kept, kept_first, kept_head, kept_policy, shown, shown_first, shown_some, shown_head, shown_policy, copied, copied_some, copied_first, copied_head, copied_policy}
 use Rattle.gate_coverage.proofs.Choices.{both_split, either_split, bool_is, cond_true, cond_false, match_true, match_false, true_match, false_match, by_get, get_is, other_is, is_get_of, no_get_of}
 use Rattle.gate_coverage.proofs.Failing.{null_rank}
 use Rattle.gate_coverage.proofs.Copying.{takes_is_taken}
 use Rattle.gate_coverage.proofs.Keeping.{cleared_is_exact}
-use Rattle.gate_gaps.specs.Turns.{or_that, counted_after, tries, acks, acks_first, acks_head, acks_policy, finds, finds_first, finds_some, finds_head, finds_policy}
+use Rattle.gate_gaps.specs.Turns.{or_that, counted_after, tries, acks, acks_first, acks_head, acks_policy, calls_before_found, finds_first, finds_some, finds_head, finds_policy}
 use Rattle.gate_gaps.specs.Beside.{IsTry, answered, IsElsewhere, IsDirect, AreDirect, IsPolicyDirect, KeptIsAcked, TakenIsFound, GapsHaveWords}
 use Rattle.gate_gaps.proofs.Trying.{pick_true, pick_false, tried, lengths}
 
@@ -84,7 +84,7 @@ module _ (s : ℕ) (ask : Ask) (op : ask.op ≡ Delete) (fits : Fits ask (answer
       λ i. record { reply = answer_of_nothing ask.dialect ask.op; from = (sym (pick_false (shows (answer_of_nothing ask.dialect ask.op)) (Some b) None q)) i }
 
   mutual
-    acked : (p : Plan) → IsGood p → (b n : ℕ) → acks s p ≡ Some n → AckedIn (Word p ask Client) b n
+    acked : (p : Plan) → IsGoodPlan p → (b n : ℕ) → acks s p ≡ Some n → AckedIn (PlanWord p ask Client) b n
     acked (Server t) good b n e =
         ⊎_elim
         (λ (same : nat_eq t s ≡ true). absurd (let x = pick_true (nat_eq t s) none (Some 0) same in cc))
@@ -103,7 +103,7 @@ module _ (s : ℕ) (ask : Ask) (op : ask.op ≡ Delete) (fits : Fits ask (answer
         (f.0, f.1, other_is ask.op _ _ (delete_is_other ask.op op) f.2, f.3, f.4, f.5)
     acked (ByOperation policies) good b n e = acked_policy policies good b n e
 
-    acked_first : (ps : Plans) → AreGood ps → (b n : ℕ) → acks_first s ps ≡ Some n → AckedIn (WordOfFirst ps 4 ask Client) b n
+    acked_first : (ps : Plans) → AreGoodPlans ps → (b n : ℕ) → acks_first s ps ≡ Some n → AckedIn (WordOfFirst ps 4 ask Client) b n
     acked_first End good b n e = absurd (cc)
     acked_first (More p ps) good b n e =
         ⊎_elim
@@ -111,18 +111,18 @@ module _ (s : ℕ) (ask : Ask) (op : ask.op ≡ Delete) (fits : Fits ask (answer
         let f = acked p good.0 b n here in
         (f.0, f.1, inl (f.2, inl (let r = null_rank ask in omega arith)), f.3, f.4, f.5))
         (λ there.
-        let t = cond_split (fails Delete p) (counted_after (tries Delete p) (acks_first s ps)) n there in
+        let t = cond_split (can_fail Delete p) (counted_after (tries Delete p) (acks_first s ps)) n there in
         let k = after_split (tries Delete p) (acks_first s ps) n t.1 in
         let c = tried p good.0 ask Client b in
         let f = acked_first ps good.1 (b + length c.0) k.0 k.1 in
-        (c.0 ++ f.0, f.1, inr (c.0, f.0 ++ f.1, append_assoc c.0 f.0 f.1, c.1, c.2, c.3.worst (subst (λ o. fails o p ≡ true) (sym op) t.0), f.2), each_append (IsTry ask.key) c.0 f.0 c.3.tried f.3, lengths c.0 f.0 (tries Delete p) k.0 (c.3.count_is ∙ ap (λ o. tries o p) op) f.4 ∙ sym k.2, f.5))
+        (c.0 ++ f.0, f.1, inr (c.0, f.0 ++ f.1, append_assoc c.0 f.0 f.1, c.1, c.2, c.3.worst (subst (λ o. can_fail o p ≡ true) (sym op) t.0), f.2), each_append (IsTry ask.key) c.0 f.0 c.3.tried f.3, lengths c.0 f.0 (tries Delete p) k.0 (c.3.count_is ∙ ap (λ o. tries o p) op) f.4 ∙ sym k.2, f.5))
         (or_split (acks s p) _ n e)
 
-    acked_head : (ps : Plans) → AreGood ps → (b n : ℕ) → acks_head s ps ≡ Some n → AckedIn (WordOfHead ps ask Client) b n
+    acked_head : (ps : Plans) → AreGoodPlans ps → (b n : ℕ) → acks_head s ps ≡ Some n → AckedIn (WordOfHead ps ask Client) b n
     acked_head End good b n e = absurd (cc)
     acked_head (More p ps) good b n e = acked p good.0 b n e
 
-    acked_policy : (ps : PlanPolicies) → ArePoliciesGood ps → (b n : ℕ) → acks_policy s ps ≡ Some n → AckedIn (WordOfPolicy ps ask Client) b n
+    acked_policy : (ps : PlanPolicies) → AreGoodPlanPolicies ps → (b n : ℕ) → acks_policy s ps ≡ Some n → AckedIn (WordOfPolicy ps ask Client) b n
     acked_policy (Otherwise p) good b n e = acked p good b n e
     acked_policy (Policy o p rest) good b n e =
         ⊎_elim
@@ -152,7 +152,7 @@ module _ (s : ℕ) (ask : Ask) (answer : Answer) (fits : Fits ask answer) (showi
   moved W b n m k calls e w = subst (λ x. W b calls (record { reply = answer; from = Some x })) (let q = e in omega arith) w
 
   mutual
-    found : (p : Plan) → IsGood p → (b n : ℕ) → finds ask.op s p ≡ Some n → FoundIn (Word p ask Client) b n
+    found : (p : Plan) → IsGoodPlan p → (b n : ℕ) → calls_before_found ask.op s p ≡ Some n → FoundIn (PlanWord p ask Client) b n
     found (Server t) good b n e =
         ⊎_elim
         (λ (same : nat_eq t s ≡ true).
@@ -174,13 +174,13 @@ module _ (s : ℕ) (ask : Ask) (answer : Answer) (fits : Fits ask answer) (showi
         (f.0, other_is ask.op _ _ other f.1, f.2, f.3))
     found (WarmUp cold warm x) good b n e =
         by_get ask.op _
-        (λ op. absurd (let y = pick_true (asks_get ask.op) None (finds ask.op s cold) (is_get_of ask.op op) in cc))
+        (λ op. absurd (let y = pick_true (asks_get ask.op) None (calls_before_found ask.op s cold) (is_get_of ask.op op) in cc))
         (λ other.
-        let f = found cold good.0 b n (sym (pick_false (asks_get ask.op) None (finds ask.op s cold) (no_get_of ask.op other)) ∙ e) in
+        let f = found cold good.0 b n (sym (pick_false (asks_get ask.op) None (calls_before_found ask.op s cold) (no_get_of ask.op other)) ∙ e) in
         (f.0, other_is ask.op _ _ other f.1, f.2, f.3))
     found (ByOperation policies) good b n e = found_policy policies good b n e
 
-    found_first : (ps : Plans) → AreGood ps → (b n : ℕ) → finds_first ask.op s ps ≡ Some n → FoundIn (WordOfFirst ps 4 ask Client) b n
+    found_first : (ps : Plans) → AreGoodPlans ps → (b n : ℕ) → finds_first ask.op s ps ≡ Some n → FoundIn (WordOfFirst ps 4 ask Client) b n
     found_first End good b n e = absurd (cc)
     found_first (More p ps) good b n e =
         ⊎_elim
@@ -188,14 +188,14 @@ module _ (s : ℕ) (ask : Ask) (answer : Answer) (fits : Fits ask answer) (showi
         let f = found p good.0 b n here in
         (f.0, inl (f.1, inl (let r = done in omega arith)), f.2, f.3))
         (λ there.
-        let t = cond_split (fails ask.op p) (counted_after (tries ask.op p) (finds_first ask.op s ps)) n there in
+        let t = cond_split (can_fail ask.op p) (counted_after (tries ask.op p) (finds_first ask.op s ps)) n there in
         let k = after_split (tries ask.op p) (finds_first ask.op s ps) n t.1 in
         let c = tried p good.0 ask Client b in
         let f = found_first ps good.1 (b + length c.0) k.0 k.1 in
         (c.0 ++ f.0, moved (WordOfFirst (More p ps) 4 ask Client) b n (length c.0) k.0 _ (k.2 ∙ ap (λ x. x + k.0) (sym c.3.count_is)) (inr (c.0, f.0 ++ answered s ask answer ∷ [], append_assoc c.0 f.0 (answered s ask answer ∷ []), c.1, c.2, c.3.worst t.0, f.1)), each_append (IsTry ask.key) c.0 f.0 c.3.tried f.2, lengths c.0 f.0 (tries ask.op p) k.0 c.3.count_is f.3 ∙ sym k.2))
-        (or_split (finds ask.op s p) _ n e)
+        (or_split (calls_before_found ask.op s p) _ n e)
 
-    found_some : (ps : Plans) → AreGood ps → (b n : ℕ) → finds_some ask.op s ps ≡ Some n → FoundIn (WordOfFirst ps 1 ask Client) b n
+    found_some : (ps : Plans) → AreGoodPlans ps → (b n : ℕ) → finds_some ask.op s ps ≡ Some n → FoundIn (WordOfFirst ps 1 ask Client) b n
     found_some End good b n e = absurd (cc)
     found_some (More p ps) good b n e =
         ⊎_elim
@@ -207,21 +207,21 @@ module _ (s : ℕ) (ask : Ask) (answer : Answer) (fits : Fits ask answer) (showi
         let c = tried p good.0 ask Client b in
         let f = found_some ps good.1 (b + length c.0) k.0 k.1 in
         (c.0 ++ f.0, moved (WordOfFirst (More p ps) 1 ask Client) b n (length c.0) k.0 _ (k.2 ∙ ap (λ x. x + k.0) (sym c.3.count_is)) (inr (c.0, f.0 ++ answered s ask answer ∷ [], append_assoc c.0 f.0 (answered s ask answer ∷ []), c.1, c.2, c.3.low, f.1)), each_append (IsTry ask.key) c.0 f.0 c.3.tried f.2, lengths c.0 f.0 (tries ask.op p) k.0 c.3.count_is f.3 ∙ sym k.2))
-        (or_split (finds ask.op s p) _ n e)
+        (or_split (calls_before_found ask.op s p) _ n e)
 
-    found_head : (ps : Plans) → AreGood ps → (b n : ℕ) → finds_head ask.op s ps ≡ Some n → FoundIn (WordOfHead ps ask Client) b n
+    found_head : (ps : Plans) → AreGoodPlans ps → (b n : ℕ) → finds_head ask.op s ps ≡ Some n → FoundIn (WordOfHead ps ask Client) b n
     found_head End good b n e = absurd (cc)
     found_head (More p ps) good b n e = found p good.0 b n e
 
-    found_policy : (ps : PlanPolicies) → ArePoliciesGood ps → (b n : ℕ) → finds_policy ask.op s ps ≡ Some n → FoundIn (WordOfPolicy ps ask Client) b n
+    found_policy : (ps : PlanPolicies) → AreGoodPlanPolicies ps → (b n : ℕ) → finds_policy ask.op s ps ≡ Some n → FoundIn (WordOfPolicy ps ask Client) b n
     found_policy (Otherwise p) good b n e = found p good b n e
     found_policy (Policy o p rest) good b n e =
         ⊎_elim
         (λ (is : same_op o ask.op ≡ true).
-        let f = found p good.0 b n (sym (pick_true (same_op o ask.op) (finds ask.op s p) (finds_policy ask.op s rest) is) ∙ e) in
+        let f = found p good.0 b n (sym (pick_true (same_op o ask.op) (calls_before_found ask.op s p) (finds_policy ask.op s rest) is) ∙ e) in
         (f.0, match_true (same_op o ask.op) _ _ is f.1, f.2, f.3))
         (λ (is : same_op o ask.op ≡ false).
-        let f = found_policy rest good.1 b n (sym (pick_false (same_op o ask.op) (finds ask.op s p) (finds_policy ask.op s rest) is) ∙ e) in
+        let f = found_policy rest good.1 b n (sym (pick_false (same_op o ask.op) (calls_before_found ask.op s p) (finds_policy ask.op s rest) is) ∙ e) in
         (f.0, match_false (same_op o ask.op) _ _ is f.1, f.2, f.3))
         (bool_is (same_op o ask.op))
 
@@ -249,9 +249,9 @@ module _ (s : ℕ) where
         ⊎_elim
         (λ here. or_left (acks s p) _ (kept_acked p d.0 here))
         (λ there.
-        let t = both_split (fails Delete p) (kept_first Delete s ps) there in
-        or_right (acks s p) _ (cond_some (fails Delete p) _ t.0 (after_some (tries Delete p) _ (kept_first_acked ps d.1 t.1))))
-        (either_split (kept Delete s p) (fails Delete p && kept_first Delete s ps) h)
+        let t = both_split (can_fail Delete p) (kept_first Delete s ps) there in
+        or_right (acks s p) _ (cond_some (can_fail Delete p) _ t.0 (after_some (tries Delete p) _ (kept_first_acked ps d.1 t.1))))
+        (either_split (kept Delete s p) (can_fail Delete p && kept_first Delete s ps) h)
 
     kept_head_acked : (ps : Plans) → AreDirect Delete ps → kept_head Delete s ps ≡ true → IsSome (acks_head s ps)
     kept_head_acked End d h = absurd (cc)
@@ -271,7 +271,7 @@ own_server false h = absurd (cc)
 
 module _ (op : Op) (s : ℕ) where
   mutual
-    shown_found : (p : Plan) → IsDirect op p → shown op s p ≡ true → IsSome (finds op s p)
+    shown_found : (p : Plan) → IsDirect op p → shown op s p ≡ true → IsSome (calls_before_found op s p)
     shown_found (Server t) d h = own_server (nat_eq t s) h
     shown_found Null d h = absurd (cc)
     shown_found Failing d h = absurd (cc)
@@ -289,18 +289,18 @@ module _ (op : Op) (s : ℕ) where
     shown_first_found End d h = absurd (cc)
     shown_first_found (More p ps) d h =
         ⊎_elim
-        (λ here. or_left (finds op s p) _ (shown_found p d.0 here))
+        (λ here. or_left (calls_before_found op s p) _ (shown_found p d.0 here))
         (λ there.
-        let t = both_split (fails op p) (shown_first op s ps) there in
-        or_right (finds op s p) _ (cond_some (fails op p) _ t.0 (after_some (tries op p) _ (shown_first_found ps d.1 t.1))))
-        (either_split (shown op s p) (fails op p && shown_first op s ps) h)
+        let t = both_split (can_fail op p) (shown_first op s ps) there in
+        or_right (calls_before_found op s p) _ (cond_some (can_fail op p) _ t.0 (after_some (tries op p) _ (shown_first_found ps d.1 t.1))))
+        (either_split (shown op s p) (can_fail op p && shown_first op s ps) h)
 
     shown_some_found : (ps : Plans) → AreDirect op ps → shown_some op s ps ≡ true → IsSome (finds_some op s ps)
     shown_some_found End d h = absurd (cc)
     shown_some_found (More p ps) d h =
         ⊎_elim
-        (λ here. or_left (finds op s p) _ (shown_found p d.0 here))
-        (λ there. or_right (finds op s p) _ (after_some (tries op p) _ (shown_some_found ps d.1 there)))
+        (λ here. or_left (calls_before_found op s p) _ (shown_found p d.0 here))
+        (λ there. or_right (calls_before_found op s p) _ (after_some (tries op p) _ (shown_some_found ps d.1 there)))
         (either_split (shown op s p) (shown_some op s ps) h)
 
     shown_head_found : (ps : Plans) → AreDirect op ps → shown_head op s ps ≡ true → IsSome (finds_head op s ps)
@@ -311,8 +311,8 @@ module _ (op : Op) (s : ℕ) where
     shown_policy_found (Otherwise p) d h = shown_found p d h
     shown_policy_found (Policy o p rest) d h =
         ⊎_elim
-        (λ (is : same_op o op ≡ true). subst IsSome (sym (pick_true (same_op o op) (finds op s p) (finds_policy op s rest) is)) (shown_found p (true_match (same_op o op) _ _ is d) (cond_true (same_op o op) _ _ is h)))
-        (λ (is : same_op o op ≡ false). subst IsSome (sym (pick_false (same_op o op) (finds op s p) (finds_policy op s rest) is)) (shown_policy_found rest (false_match (same_op o op) _ _ is d) (cond_false (same_op o op) _ _ is h)))
+        (λ (is : same_op o op ≡ true). subst IsSome (sym (pick_true (same_op o op) (calls_before_found op s p) (finds_policy op s rest) is)) (shown_found p (true_match (same_op o op) _ _ is d) (cond_true (same_op o op) _ _ is h)))
+        (λ (is : same_op o op ≡ false). subst IsSome (sym (pick_false (same_op o op) (calls_before_found op s p) (finds_policy op s rest) is)) (shown_policy_found rest (false_match (same_op o op) _ _ is d) (cond_false (same_op o op) _ _ is h)))
         (bool_is (same_op o op))
 
   -- without a warm-up nothing is copied
@@ -337,7 +337,7 @@ module _ (op : Op) (s : ℕ) where
 
     none_copied_first : (ps : Plans) → AreDirect op ps → copied_first op s ps ≡ true → ⊥
     none_copied_first End d h = cc
-    none_copied_first (More p ps) d h = ⊎_elim (λ here. none_copied p d.0 here) (λ there. none_copied_first ps d.1 (both_split (fails op p) (copied_first op s ps) there).1) (either_split (copied op s p) (fails op p && copied_first op s ps) h)
+    none_copied_first (More p ps) d h = ⊎_elim (λ here. none_copied p d.0 here) (λ there. none_copied_first ps d.1 (both_split (can_fail op p) (copied_first op s ps) there).1) (either_split (copied op s p) (can_fail op p && copied_first op s ps) h)
 
     none_copied_head : (ps : Plans) → AreDirect op ps → copied_head op s ps ≡ true → ⊥
     none_copied_head End d h = cc

@@ -11,7 +11,7 @@ use Rattle.mc_types.specs.Rank.{IsWorst, NoneAbove}
 use Rattle.fresh_runs.specs.Calls.{Call}
 use Rattle.route_tree.specs.Operation.{same_op}
 use Rattle.route_tree.specs.Plan.{Plan, Plans, PlanPolicies, Server, Null, Failing, AllSync, Failover, MissFailover, WarmUp, ByOperation, End, More, Otherwise, Policy}
-use Rattle.route_tree.specs.Word.{Given, rank, given_by, null_reply, failing_reply, plain_get, refill, is_plain_get, IfGet, Word, WordOfAll, WordOfFirst, WordOfHead, WordOfPolicy, IsEnd, Then, GivesOnly, AfterRefill, Refilled, AfterWarm, AfterCold, WarmUpWord}
+use Rattle.route_tree.specs.Word.{Given, rank, given_by, null_reply, failing_reply, plain_get, refill, is_plain_get, IfGet, PlanWord, WordOfAll, WordOfFirst, WordOfHead, WordOfPolicy, IsEnd, Then, GivesOnly, AfterRefill, Refilled, AfterWarm, AfterCold, WarmUpWord}
 use Rattle.gate_gaps.specs.Determined.{IsSameCall, Alike, outcomes_of, AreDetermined}
 
 -- ---- lists of calls that go the same way
@@ -104,7 +104,7 @@ stops (More p ps) limit ask origin g x b more h (inr end) le e w = end
 -- ---- plain trees
 
 mutual
-  pub word_sure : (p : Plan) (ask : Ask) (origin : Origin) → Sure (Word p ask origin)
+  pub word_sure : (p : Plan) (ask : Ask) (origin : Origin) → Sure (PlanWord p ask origin)
   word_sure (Server t) ask origin b xs ys g h w v =
       both_are (g ≡ h) xs ys _ _ w.2 v.2 (record { server = refl; ask = refl; origin = refl }, λ o. w.3 ∙ ap (given_by b) o ∙ sym v.3)
   word_sure Null ask origin b xs ys g h w v = gives_sure (null_reply ask) b xs ys g h w v
@@ -114,8 +114,8 @@ mutual
   word_sure (Failover ps) ask origin b xs ys g h w v = first_sure ps 4 ask origin b xs ys g h w v
   word_sure (MissFailover ps) ask origin b xs ys g h w v = if_sure ask.op (WordOfFirst ps 1 ask origin) (WordOfHead ps ask origin) (first_sure ps 1 ask origin) (head_sure ps ask origin) b xs ys g h w v
   word_sure (WarmUp cold warm e) ask origin b xs ys g h w v =
-      if_sure ask.op (WarmUpWord ask (Word cold ask origin) (Word warm (plain_get ask) origin) (λ hit k. Word cold (refill ask hit e) (CopyOf k))) (Word cold ask origin)
-      (warm_up_sure ask (Word cold ask origin) (Word warm (plain_get ask) origin) (λ hit k. Word cold (refill ask hit e) (CopyOf k)) (word_sure cold ask origin) (word_sure warm (plain_get ask) origin) (λ hit k. word_sure cold (refill ask hit e) (CopyOf k)))
+      if_sure ask.op (WarmUpWord ask (PlanWord cold ask origin) (PlanWord warm (plain_get ask) origin) (λ hit k. PlanWord cold (refill ask hit e) (CopyOf k))) (PlanWord cold ask origin)
+      (warm_up_sure ask (PlanWord cold ask origin) (PlanWord warm (plain_get ask) origin) (λ hit k. PlanWord cold (refill ask hit e) (CopyOf k)) (word_sure cold ask origin) (word_sure warm (plain_get ask) origin) (λ hit k. word_sure cold (refill ask hit e) (CopyOf k)))
       (word_sure cold ask origin) b xs ys g h w v
   word_sure (ByOperation policies) ask origin b xs ys g h w v = policy_sure policies ask origin b xs ys g h w v
 
@@ -147,7 +147,7 @@ mutual
 
   pub policy_sure : (ps : PlanPolicies) (ask : Ask) (origin : Origin) → Sure (WordOfPolicy ps ask origin)
   policy_sure (Otherwise p) ask origin b xs ys g h w v = word_sure p ask origin b xs ys g h w v
-  policy_sure (Policy op p rest) ask origin b xs ys g h w v = match_sure (same_op op ask.op) (Word p ask origin) (WordOfPolicy rest ask origin) (word_sure p ask origin) (policy_sure rest ask origin) b xs ys g h w v
+  policy_sure (Policy op p rest) ask origin b xs ys g h w v = match_sure (same_op op ask.op) (PlanWord p ask origin) (WordOfPolicy rest ask origin) (word_sure p ask origin) (policy_sure rest ask origin) b xs ys g h w v
 
 -- ---- the law
 

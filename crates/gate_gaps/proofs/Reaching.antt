@@ -5,7 +5,7 @@ use Rattle.mc_types.specs.declared.ask.Op.{Op}
 use Rattle.route_tree.specs.Form.{plans_of, plan_policies_of}
 use Rattle.route_tree.specs.Operation.{same_op}
 use Rattle.route_tree.specs.Plan.{Plan, Plans, PlanPolicies, AllSync, Failover, MissFailover, ByOperation, End, More, Otherwise, Policy}
-use Rattle.gate_coverage.specs.Computed.{takes_server, asks_get, is_taking, fails, hits_each, shown, shown_each, shown_first, shown_some, shown_head, shown_policy, copied, copied_some, copied_first, copied_head, copied_policy}
+use Rattle.gate_coverage.specs.Computed.{takes_server, asks_get, is_taking, can_fail, hits_each, shown, shown_each, shown_first, shown_some, shown_head, shown_policy, copied, copied_some, copied_first, copied_head, copied_policy}
 use Rattle.gate_coverage.proofs.Choices.{both, both_split, either_left, either_right, either_split, bool_is, cond_true, cond_false}
 use Rattle.gate_gaps.specs.declared.ways.Listed.{Listed}
 use Rattle.gate_gaps.specs.declared.ways.WayStep.{WayStep}
@@ -31,9 +31,9 @@ module _ (op : Op) (s : ℕ) (taking : is_taking op ≡ true) where
 
   of_first : (ps : Plans) → shown_first op s ps ≡ true → some_taken op s ps ≡ true
   of_first End h = absurd (cc)
-  of_first (More p ps) h = elim (either_split (shown op s p) (fails op p && shown_first op s ps) h) [
+  of_first (More p ps) h = elim (either_split (shown op s p) (can_fail op p && shown_first op s ps) h) [
     | inl e ↦ here p ps (shown_taken p e)
-    | inr e ↦ there p ps (of_first ps (both_split (fails op p) (shown_first op s ps) e).1)
+    | inr e ↦ there p ps (of_first ps (both_split (can_fail op p) (shown_first op s ps) e).1)
   ]
 
   of_some : (ps : Plans) → shown_some op s ps ≡ true → some_taken op s ps ≡ true
@@ -56,9 +56,9 @@ module _ (op : Op) (s : ℕ) (taking : is_taking op ≡ true) where
 
   copied_of_first : (ps : Plans) → asks_get op ≡ true → copied_first op s ps ≡ true → some_taken op s ps ≡ true
   copied_of_first End g h = absurd (cc)
-  copied_of_first (More p ps) g h = elim (either_split (copied op s p) (fails op p && copied_first op s ps) h) [
+  copied_of_first (More p ps) g h = elim (either_split (copied op s p) (can_fail op p && copied_first op s ps) h) [
     | inl e ↦ here p ps (copied_taken p g e)
-    | inr e ↦ there p ps (copied_of_first ps g (both_split (fails op p) (copied_first op s ps) e).1)
+    | inr e ↦ there p ps (copied_of_first ps g (both_split (can_fail op p) (copied_first op s ps) e).1)
   ]
 
 -- what is taken is shown, or copied by a get

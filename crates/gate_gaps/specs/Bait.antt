@@ -8,10 +8,10 @@ use Rattle.mc_types.specs.declared.answer.Answer.{Answer}
 use Rattle.mc_types.specs.declared.answer.Answer.TheVariants.{Number, Hit}
 use Rattle.mc_types.specs.KeyText.{IsKey}
 use Rattle.mc_types.specs.Items.{Item}
-use Rattle.route_tree.specs.Plan.{Plan, IsGood}
+use Rattle.route_tree.specs.Plan.{Plan, IsGoodPlan}
 use Rattle.gate_coverage.specs.declared.deleting.Deleting.{Deleting}
 use Rattle.gate_coverage.specs.Cover.{IsTaking, Takes, Clears, deleting_dialect}
-use Rattle.gate_gaps.specs.Turns.{acks, finds}
+use Rattle.gate_gaps.specs.Turns.{acks, calls_before_found}
 use Rattle.gate_gaps.specs.Beside.{IsDirect}
 use Rattle.gate_gaps.specs.Leaking.{LeaksIn}
 
@@ -50,16 +50,16 @@ IsBaited opening s key = (opening s key ≡ Some bait) × ((t : ℕ) → t ≢ s
 abbrev pub NumbersLeak : (ℕ → Ask → ℕ → Ask → Type 0) → Type 0
 NumbersLeak Bars =
     (at : ℕ → List ℕ → Plan) (opening : ℕ → List ℕ → Option Item) (key : List ℕ) (op : Op) (kind : Deleting) (s i j : ℕ)
-    → IsKey key → IsTaking op → IsGood (at 1 key) → IsGood (at 2 key) → IsBaited opening s key
-    → acks s (at 1 key) ≡ Some i → finds op s (at 2 key) ≡ Some j → LeaksIn at Bars opening (delete_of kind key) (read_of op key) s i j (bait_answer op)
+    → IsKey key → IsTaking op → IsGoodPlan (at 1 key) → IsGoodPlan (at 2 key) → IsBaited opening s key
+    → acks s (at 1 key) ≡ Some i → calls_before_found op s (at 2 key) ≡ Some j → LeaksIn at Bars opening (delete_of kind key) (read_of op key) s i j (bait_answer op)
 
 -- for a real gap both numbers of failing calls are computed, an all-sync or a warm-up aside; and then a script leaks
 abbrev pub GapsHaveLeaks : (ℕ → Ask → ℕ → Ask → Type 0) → Type 0
 GapsHaveLeaks Bars =
     (at : ℕ → List ℕ → Plan) (opening : ℕ → List ℕ → Option Item) (key : List ℕ) (op : Op) (kind : Deleting) (s : ℕ)
-    → IsKey key → IsTaking op → IsGood (at 1 key) → IsGood (at 2 key) → IsBaited opening s key
+    → IsKey key → IsTaking op → IsGoodPlan (at 1 key) → IsGoodPlan (at 2 key) → IsBaited opening s key
     → IsDirect Delete (at 1 key) → IsDirect op (at 2 key) → Takes (at 2 key) op s → (Clears (at 1 key) kind s → ⊥)
-    → (i j : ℕ) × (acks s (at 1 key) ≡ Some i) × (finds op s (at 2 key) ≡ Some j) × LeaksIn at Bars opening (delete_of kind key) (read_of op key) s i j (bait_answer op)
+    → (i j : ℕ) × (acks s (at 1 key) ≡ Some i) × (calls_before_found op s (at 2 key) ≡ Some j) × LeaksIn at Bars opening (delete_of kind key) (read_of op key) s i j (bait_answer op)
 
 pub record BaitIsTaken (Bars : ℕ → Ask → ℕ → Ask → Type 0) : Type 0 where
   pub numbers : NumbersLeak Bars

@@ -5,7 +5,7 @@ use Rattle.mc_types.specs.declared.call.Origin.{Origin}
 use Rattle.mc_types.specs.declared.call.Outcome.{Outcome}
 use Rattle.fresh_runs.specs.Calls.{Call}
 use Rattle.route_tree.specs.Plan.{Plan}
-use Rattle.route_tree.specs.Word.{Given, Word}
+use Rattle.route_tree.specs.Word.{Given, PlanWord}
 
 -- the two calls are the same, however they ended
 pub record IsSameCall (x y : Call) : Type 0 where
@@ -28,25 +28,25 @@ outcomes_of calls = map (λ (c : Call). c.outcome) calls
 abbrev pub WordsAreAlike : Type 0
 WordsAreAlike =
     (plain : Plan) (ask : Ask) (origin : Origin) (b : ℕ) (xs ys : List Call) (g h : Given)
-    → Word plain ask origin b xs g → Word plain ask origin b ys h → Alike (g ≡ h) xs ys
+    → PlanWord plain ask origin b xs g → PlanWord plain ask origin b ys h → Alike (g ≡ h) xs ys
 
 -- after the same calls, ended alike, the next call is the same
 abbrev pub NextIsDetermined : Type 0
 NextIsDetermined =
     (plain : Plan) (ask : Ask) (origin : Origin) (b : ℕ) (front : List Call) (x y : Call) (xs ys : List Call) (g h : Given)
-    → Word plain ask origin b (front ++ x ∷ xs) g → Word plain ask origin b (front ++ y ∷ ys) h → IsSameCall x y
+    → PlanWord plain ask origin b (front ++ x ∷ xs) g → PlanWord plain ask origin b (front ++ y ∷ ys) h → IsSameCall x y
 
 -- no word goes on after another
 abbrev pub NoneGoesOn : Type 0
 NoneGoesOn =
     (plain : Plan) (ask : Ask) (origin : Origin) (b : ℕ) (front : List Call) (y : Call) (ys : List Call) (g h : Given)
-    → Word plain ask origin b front g → Word plain ask origin b (front ++ y ∷ ys) h → ⊥
+    → PlanWord plain ask origin b front g → PlanWord plain ask origin b (front ++ y ∷ ys) h → ⊥
 
 -- where all calls end alike, calls and replies are the same
 abbrev pub OutcomesDecide : Type 0
 OutcomesDecide =
     (plain : Plan) (ask : Ask) (origin : Origin) (b : ℕ) (xs ys : List Call) (g h : Given)
-    → Word plain ask origin b xs g → Word plain ask origin b ys h → outcomes_of xs ≡ outcomes_of ys → (xs ≡ ys) × (g ≡ h)
+    → PlanWord plain ask origin b xs g → PlanWord plain ask origin b ys h → outcomes_of xs ≡ outcomes_of ys → (xs ≡ ys) × (g ≡ h)
 
 -- a word of a plain tree for an ask is determined by the outcomes of its calls
 pub record AreDetermined : Type 0 where

@@ -14,9 +14,9 @@ use Rattle.mc_types.specs.Shows.{shows}
 use Rattle.fresh_runs.specs.Calls.{Call, End, Read, Never}
 use Rattle.fresh_runs.specs.Run.{Event, Begins, Calls, Replies, Run, IsFreshByNumber}
 use Rattle.route_tree.specs.Each.{Each}
-use Rattle.route_tree.specs.Plan.{Plan, IsGood}
+use Rattle.route_tree.specs.Plan.{Plan, IsGoodPlan}
 use Rattle.route_tree.specs.Word.{answer_of_nothing, tree_words}
-use Rattle.gate_gaps.specs.Turns.{acks, finds}
+use Rattle.gate_gaps.specs.Turns.{acks, calls_before_found}
 use Rattle.gate_gaps.specs.Beside.{IsTry, IsElsewhere, answered}
 
 -- how a client's call ends in the run: answered with the command's stamp, or not applied
@@ -74,5 +74,5 @@ pub record IsBait (opening : ℕ → List ℕ → Option Item) (delete read : As
 abbrev pub GapsLeak : (ℕ → Ask → ℕ → Ask → Type 0) → Type 0
 GapsLeak Bars =
     (at : ℕ → List ℕ → Plan) (opening : ℕ → List ℕ → Option Item) (delete read : Ask) (s i j : ℕ) (answer : Answer)
-    → IsGood (at 1 delete.key) → IsGood (at 2 read.key) → IsBait opening delete read s answer
-    → acks s (at 1 delete.key) ≡ Some i → finds read.op s (at 2 read.key) ≡ Some j → LeaksIn at Bars opening delete read s i j answer
+    → IsGoodPlan (at 1 delete.key) → IsGoodPlan (at 2 read.key) → IsBait opening delete read s answer
+    → acks s (at 1 delete.key) ≡ Some i → calls_before_found read.op s (at 2 read.key) ≡ Some j → LeaksIn at Bars opening delete read s i j answer

@@ -5,7 +5,7 @@ use Rattle.mc_types.specs.declared.ask.Op.{Op}
 use Rattle.route_json.specs.NumberedServers.{Addresses}
 use Rattle.gate_coverage.specs.declared.deleting.Deleting.{Deleting}
 use Rattle.gate_gaps.specs.Names.{op_name, delete_name, server_address}
-use Rattle.gate_gaps.specs.Phrases.{text_of}
+use Rattle.gate_gaps.specs.Phrases.{gap_phrase_text}
 use Rattle.gate_gaps.specs.Pools.{NamedPools}
 use Rattle.gate_gaps.specs.PoolWords.{server_text}
 use Rattle.gate_gaps.specs.declared.phrases.Phrase.{Phrase}
@@ -26,17 +26,17 @@ list_phrase lists.MissFailover = phrases.MissFailover
 
 -- a step, by the name of the route and the field of the child
 abbrev pub step_text : WayStep → List ℕ
-step_text (steps.Child listed n) = codes " " ++ text_of (list_phrase listed) ++ codes " children[" ++ decimal n ++ codes "] >"
-step_text (steps.Policy op) = codes " " ++ text_of phrases.Policies ++ codes "." ++ op_name op ++ codes " >"
-step_text steps.Cold = codes " " ++ text_of phrases.Cold ++ codes " >"
-step_text steps.Warm = codes " " ++ text_of phrases.Warm ++ codes " >"
-step_text steps.Default = codes " " ++ text_of phrases.Default ++ codes " >"
+step_text (steps.Child listed n) = codes " " ++ gap_phrase_text (list_phrase listed) ++ codes " children[" ++ decimal n ++ codes "] >"
+step_text (steps.Policy op) = codes " " ++ gap_phrase_text phrases.Policies ++ codes "." ++ op_name op ++ codes " >"
+step_text steps.Cold = codes " " ++ gap_phrase_text phrases.Cold ++ codes " >"
+step_text steps.Warm = codes " " ++ gap_phrase_text phrases.Warm ++ codes " >"
+step_text steps.Default = codes " " ++ gap_phrase_text phrases.Default ++ codes " >"
 
 abbrev pub steps_text : List WayStep → List ℕ
 steps_text way = flat_map step_text way
 
 abbrev pub way_front : (address : List ℕ) → Op → List ℕ
-way_front address op = codes "# a " ++ op_name op ++ codes " " ++ text_of phrases.CanShow ++ codes " " ++ escaped address ++ codes " " ++ text_of phrases.Holds
+way_front address op = codes "# a " ++ op_name op ++ codes " " ++ gap_phrase_text phrases.CanShow ++ codes " " ++ escaped address ++ codes " " ++ gap_phrase_text phrases.Holds
 
 abbrev pub way_end : Addresses → NamedPools → ℕ → List ℕ
 way_end servers pools server = codes " " ++ server_text servers pools server ++ codes "\n"
@@ -70,14 +70,14 @@ abbrev pub row_text : Addresses → NamedPools → Which → List ServerUse → 
 row_text servers pools w server_uses = if has_some w server_uses then members_text servers pools w server_uses ++ codes "\n" else codes " none\n"
 
 abbrev pub reads_line : Addresses → NamedPools → List ServerUse → List ℕ
-reads_line servers pools server_uses = text_of phrases.Reads ++ row_text servers pools which.Read server_uses
+reads_line servers pools server_uses = gap_phrase_text phrases.Reads ++ row_text servers pools which.Read server_uses
 
 abbrev pub cleared_line : Addresses → NamedPools → Deleting → List ServerUse → List ℕ
 cleared_line servers pools kind server_uses =
-    codes "# a " ++ delete_name kind ++ codes " " ++ text_of phrases.HasCleared ++ row_text servers pools which.Cleared server_uses
+    codes "# a " ++ delete_name kind ++ codes " " ++ gap_phrase_text phrases.HasCleared ++ row_text servers pools which.Cleared server_uses
 
 abbrev pub left_line : Addresses → NamedPools → List ServerUse → List ℕ
-left_line servers pools server_uses = text_of phrases.Left ++ row_text servers pools which.Left server_uses
+left_line servers pools server_uses = gap_phrase_text phrases.Left ++ row_text servers pools which.Left server_uses
 
 abbrev pub server_use_lines : Addresses → NamedPools → Deleting → List ServerUse → List ℕ
 server_use_lines servers pools kind server_uses =

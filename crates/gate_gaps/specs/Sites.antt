@@ -6,7 +6,7 @@ use Rattle.route_tree.specs.At.{begins}
 use Rattle.route_tree.specs.Operation.{same_op}
 use Rattle.route_tree.specs.Route.{Route, Policies, Prefixes, Pool, Server, Null, Failing, AllSync, Failover, MissFailover, WarmUp, ByOperation, ByPrefix, Otherwise, Policy, Wildcard, Prefix}
 use Rattle.gate_gaps.specs.Kinds.{kind_name}
-use Rattle.gate_gaps.specs.Phrases.{text_of}
+use Rattle.gate_gaps.specs.Phrases.{gap_phrase_text}
 use Rattle.gate_gaps.specs.Pointing.{pointed}
 use Rattle.gate_gaps.specs.Pools.{NamedPools}
 use Rattle.gate_gaps.specs.PoolWords.{server_text, pool_names}
@@ -66,10 +66,10 @@ abbrev pub policy_path : List ℕ → List ℕ
 policy_path policy = codes "/policies/" ++ pointed policy
 
 abbrev pub change_front : Route → List ℕ
-change_front r = text_of phrases.ToChange ++ codes " " ++ text_of (lack_phrase r) ++ codes " "
+change_front r = gap_phrase_text phrases.ToChange ++ codes " " ++ gap_phrase_text (lack_phrase r) ++ codes " "
 
 abbrev pub change_end : Route → List ℕ
-change_end r = text_of (fix_phrase r) ++ codes "\n"
+change_end r = gap_phrase_text (fix_phrase r) ++ codes "\n"
 
 -- the end of the path, and the route there
 abbrev pub end_line : NamedPools → Route → List ℕ
@@ -101,16 +101,16 @@ module _ (servers : Addresses) (pools : NamedPools) (server : ℕ) where
 
       -- the rest of the path by the first policy of deletes, else by the default
       pub site_by : Policies → List ℕ
-      site_by (Otherwise r) = text_of phrases.DefaultPath ++ site_text r
-      site_by (Policy op r ps) = if same_op op Delete then text_of phrases.DeletePath ++ site_text r else site_by ps
+      site_by (Otherwise r) = gap_phrase_text phrases.DefaultPath ++ site_text r
+      site_by (Policy op r ps) = if same_op op Delete then gap_phrase_text phrases.DeletePath ++ site_text r else site_by ps
 
       -- the rest of the path by the policy of this length that begins the place's prefix, else by the wildcard
       pub site_begun : (longest : ℕ) → Prefixes → List ℕ
-      site_begun longest (Wildcard r) = text_of phrases.WildcardPath ++ site_text r
+      site_begun longest (Wildcard r) = gap_phrase_text phrases.WildcardPath ++ site_text r
       site_begun longest (Prefix p r ps) =
           if begins p prefix && length p == longest then policy_path p ++ site_text r
           else site_begun longest ps
 
     -- by which route deletes go, what to change there, and what else could be done
     abbrev pub change_lines : Route → List ℕ
-    change_lines r = text_of phrases.DeletesGo ++ site_text r ++ text_of phrases.Else ++ codes "\n"
+    change_lines r = gap_phrase_text phrases.DeletesGo ++ site_text r ++ gap_phrase_text phrases.Else ++ codes "\n"

@@ -4,7 +4,7 @@ use Rattle.mc_types.specs.declared.ask.Op.{Op}
 use Rattle.mc_types.specs.declared.ask.Op.TheVariants.{Delete}
 use Rattle.route_tree.specs.Operation.{same_op}
 use Rattle.route_tree.specs.Plan.{Plan, Plans, PlanPolicies, Server, Null, Failing, AllSync, Failover, MissFailover, WarmUp, ByOperation, End, More, Otherwise, Policy}
-use Rattle.gate_coverage.specs.Computed.{asks_get, fails}
+use Rattle.gate_coverage.specs.Computed.{asks_get, can_fail}
 
 -- the first that is there
 abbrev pub or_that : Option ℕ → Option ℕ → Option ℕ
@@ -35,7 +35,7 @@ module _ (op : Op) where
 
     pub tries_first : Plans → ℕ
     tries_first End = 0
-    tries_first (More p ps) = if fails op p then tries p + tries_first ps else tries p
+    tries_first (More p ps) = if can_fail op p then tries p + tries_first ps else tries p
 
     pub tries_head : Plans → ℕ
     tries_head End = 0
@@ -60,7 +60,7 @@ module _ (s : ℕ) where
 
     pub acks_first : Plans → Option ℕ
     acks_first End = None
-    acks_first (More p ps) = or_that (acks p) (if fails Delete p then counted_after (tries Delete p) (acks_first ps) else None)
+    acks_first (More p ps) = or_that (acks p) (if can_fail Delete p then counted_after (tries Delete p) (acks_first ps) else None)
 
     pub acks_head : Plans → Option ℕ
     acks_head End = None
@@ -73,28 +73,28 @@ module _ (s : ℕ) where
 module _ (op : Op) (s : ℕ) where
   abbrev mutual
     -- how many calls of a read fail before it shows the server's item
-    pub finds : Plan → Option ℕ
-    finds (Server t) = if nat_eq t s then Some 0 else None
-    finds Null = None
-    finds Failing = None
-    finds (AllSync ps) = None
-    finds (Failover ps) = finds_first ps
-    finds (MissFailover ps) = if asks_get op then finds_some ps else finds_head ps
-    finds (WarmUp cold warm e) = if asks_get op then None else finds cold
-    finds (ByOperation ps) = finds_policy ps
+    pub calls_before_found : Plan → Option ℕ
+    calls_before_found (Server t) = if nat_eq t s then Some 0 else None
+    calls_before_found Null = None
+    calls_before_found Failing = None
+    calls_before_found (AllSync ps) = None
+    calls_before_found (Failover ps) = finds_first ps
+    calls_before_found (MissFailover ps) = if asks_get op then finds_some ps else finds_head ps
+    calls_before_found (WarmUp cold warm e) = if asks_get op then None else calls_before_found cold
+    calls_before_found (ByOperation ps) = finds_policy ps
 
     pub finds_first : Plans → Option ℕ
     finds_first End = None
-    finds_first (More p ps) = or_that (finds p) (if fails op p then counted_after (tries op p) (finds_first ps) else None)
+    finds_first (More p ps) = or_that (calls_before_found p) (if can_fail op p then counted_after (tries op p) (finds_first ps) else None)
 
     pub finds_some : Plans → Option ℕ
     finds_some End = None
-    finds_some (More p ps) = or_that (finds p) (counted_after (tries op p) (finds_some ps))
+    finds_some (More p ps) = or_that (calls_before_found p) (counted_after (tries op p) (finds_some ps))
 
     pub finds_head : Plans → Option ℕ
     finds_head End = None
-    finds_head (More p ps) = finds p
+    finds_head (More p ps) = calls_before_found p
 
     pub finds_policy : PlanPolicies → Option ℕ
-    finds_policy (Otherwise p) = finds p
-    finds_policy (Policy o p rest) = if same_op o op then finds p else finds_policy rest
+    finds_policy (Otherwise p) = calls_before_found p
+    finds_policy (Policy o p rest) = if same_op o op then calls_before_found p else finds_policy rest

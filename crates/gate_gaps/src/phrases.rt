@@ -1,7 +1,7 @@
 //! The fixed texts of an explanation.
 
 ghost use Rattle.std.specs.Prelude.{◌≡◌};
-ghost use Rattle.gate_gaps.specs.Phrases.{text_of};
+ghost use Rattle.gate_gaps.specs.Phrases.{gap_phrase_text};
 
 /// A fixed text.
 #[derive(Clone, Copy)]
@@ -41,9 +41,9 @@ pub enum Phrase {
 }
 
 /// The text.
-#[tactic(auto, unfolding(crate::specs::Phrases::text_of))]
+#[tactic(auto, unfolding(crate::specs::Phrases::gap_phrase_text))]
 pub fn text_of(phrase: Phrase) -> &'static str
-    ensures { result.now ≡ text_of phrase }
+    ensures { result.now ≡ gap_phrase_text phrase }
 {
     match phrase {
         Phrase::CanShow => "of these keys can show or copy what",

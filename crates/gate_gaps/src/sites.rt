@@ -146,7 +146,7 @@ fn write_end<W: Write>(
 }
 
 fn write_path<W: Write>(part: Phrase, out: &mut W) -> io::Result<()>
-    ensures { OnOk result (Appends (W.contents out.old) (W.contents out.new) (spec.text_of part)) }
+    ensures { OnOk result (Appends (W.contents out.old) (W.contents out.new) (spec.gap_phrase_text part)) }
 {
     let part = text_of(part);
     write!(out, "{part}")

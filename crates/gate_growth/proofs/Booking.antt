@@ -17,7 +17,7 @@ use Rattle.gate_growth.specs.Grown.{IsPlaceAmong, AreSoundSince, plans_at}
 use Rattle.gate_growth.specs.Pages.{AreBegun, AreOpened, IsPageOf}
 use Rattle.gate_growth.specs.Classes.{ArePagesOf}
 use Rattle.gate_growth.specs.PlaceRows.{place_rows, AreRowsOf}
-use Rattle.gate_growth.specs.LeftGaps.{MayFollowAt, IsFirstLeft}
+use Rattle.gate_growth.specs.LeftGaps.{MayFollowAt, IsFirstGapLeft}
 use Rattle.gate_growth.specs.Turning.{AreKnown}
 use Rattle.gate_growth.specs.Ledgers.{IsFirstLeftGap}
 use Rattle.gate_growth.proofs.Marking.{get_below}
@@ -80,11 +80,11 @@ module _ (arbitrary : ℕ → Bool) (trees : List Route) (tree : Route) (are : E
         (since, (λ place among server. each_in (MayFollowAt arbitrary trees tree) (place_rows prefixes modulus) place may (place_in more prefixes modulus rows place among) server))
 
     -- the first gap is at a place of the trees
-    among_first : (g : ℕ) (found : Gap) → IsFirstLeft arbitrary trees tree (place_rows prefixes modulus) g found → IsPlaceAmong more found.place
+    among_first : (g : ℕ) (found : Gap) → IsFirstGapLeft arbitrary trees tree (place_rows prefixes modulus) g found → IsPlaceAmong more found.place
     among_first g found h =
         (each_right (IsPlaceAmong more) h.before (found.place ∷ h.after) (subst (Each (IsPlaceAmong more)) h.stands (rows_among more prefixes modulus rows))).0
 
-    pub unsound_with : (g : ℕ) (found : Gap) → IsFirstLeft arbitrary trees tree (place_rows prefixes modulus) g found → AreSoundSince arbitrary more → ⊥
+    pub unsound_with : (g : ℕ) (found : Gap) → IsFirstGapLeft arbitrary trees tree (place_rows prefixes modulus) g found → AreSoundSince arbitrary more → ⊥
     unsound_with g found h since =
         let may = ((reload_is_sound arbitrary trees tree are_more).0 since).1 found.place (among_first g found h) found.server in
         not_refused (arbitrary found.server) (plans_at found.place trees) (tree_at_place tree found.place) found.server g may h.here.refused
@@ -99,7 +99,7 @@ left_within arbitrary trees tree place s g refused =
     refused.1
 
 pub first_left : (arbitrary : ℕ → Bool) (trees : List Route) (tree : Route) → Each IsTree trees → IsTree tree → (prefixes : List (Option (List ℕ))) (modulus : ℕ) → AreRowsOf (trees ++ tree ∷ []) prefixes modulus
-    → (g n generation : ℕ) (found : Gap) → IsFirstLeft arbitrary trees tree (place_rows prefixes modulus) g found → n ≡ length trees → n < 4294967295 → (g < 4294967295 → generation ≡ g + 1) → IsFirstLeftGap arbitrary trees tree generation found
+    → (g n generation : ℕ) (found : Gap) → IsFirstGapLeft arbitrary trees tree (place_rows prefixes modulus) g found → n ≡ length trees → n < 4294967295 → (g < 4294967295 → generation ≡ g + 1) → IsFirstLeftGap arbitrary trees tree generation found
 first_left arbitrary trees tree are is prefixes modulus rows g n generation found h counted few numbered =
     let within = left_within arbitrary trees tree found.place found.server g h.here.refused in
     record {

@@ -6,7 +6,7 @@ use Rattle.fresh_runs.proofs.Stamps.{get_left, get_seam}
 use Rattle.mc_types.specs.declared.ask.Op.{Op}
 use Rattle.route_tree.specs.declared.place.Place.{Place}
 use Rattle.route_tree.specs.Each.{Each}
-use Rattle.route_tree.specs.Plan.{Plan, IsGood}
+use Rattle.route_tree.specs.Plan.{Plan, IsGoodPlan}
 use Rattle.route_tree.specs.Route.{Route}
 use Rattle.route_tree.specs.Place.{tree_at_place}
 use Rattle.route_tree.proofs.Parts.{each_at, each_weaker}
@@ -22,20 +22,20 @@ use Rattle.gate_growth.specs.Marks.{IsTaken, IsClear, NoneLeaves, IsFirstLeft as
 use Rattle.gate_growth.specs.Rows.{RefusedNotAfter}
 use Rattle.gate_growth.specs.Pages.{IsFirstOf}
 use Rattle.gate_growth.specs.Grown.{plans_at}
-use Rattle.gate_growth.specs.LeftGaps.{IsLeftBy, IfLeftBy, MayFollowAt, IsRefusedLater, IsRefusedNotBefore, IsFirstLeft, IfFirstLeft, earlier}
+use Rattle.gate_growth.specs.LeftGaps.{IsLeftBy, IfLeftBy, MayFollowAt, IsRefusedLater, IsRefusedNotBefore, IsFirstGapLeft, IfFirstLeft, earlier}
 use Rattle.gate_growth.proofs.Rowing.{not_less, not_refused}
 
 -- ---- the gap of a refusal
 
-module _ (arbitrary : ℕ → Bool) (plans : List Plan) (later : Plan) (good : Each IsGood plans) (good_later : IsGood later) where
-  unclear : (p : Plan) (s : ℕ) → IsGood p → (IsClear p s → ⊥) → Clears p kinds.Delete s → ⊥
+module _ (arbitrary : ℕ → Bool) (plans : List Plan) (later : Plan) (good : Each IsGoodPlan plans) (good_later : IsGoodPlan later) where
+  unclear : (p : Plan) (s : ℕ) → IsGoodPlan p → (IsClear p s → ⊥) → Clears p kinds.Delete s → ⊥
   unclear p s g not clears = not (λ kind. (cleared_is_exact p kind s g).0 ((cleared_is_exact p kinds.Delete s g).1 clears))
 
   -- the generation's plain tree, which doesn't clear the server
   earlier_of : (s g : ℕ) → IsFirstLeaving (arbitrary s) plans s g ⊎ (NoneLeaves (arbitrary s) plans s × (g ≡ length plans) × (IsClear later s → ⊥)) → (p : Plan) × (slice_get (plans ++ later ∷ []) g ≡ Some p) × (Clears p kinds.Delete s → ⊥)
   earlier_of s g (inl x) =
       let leaves = x.0 in
-      (leaves.0, get_left plans (later ∷ []) g leaves.0 leaves.1, unclear leaves.0 s (each_at IsGood plans g leaves.0 good leaves.1) leaves.3)
+      (leaves.0, get_left plans (later ∷ []) g leaves.0 leaves.1, unclear leaves.0 s (each_at IsGoodPlan plans g leaves.0 good leaves.1) leaves.3)
   earlier_of s g (inr x) = (later, subst (λ n. slice_get (plans ++ later ∷ []) n ≡ Some later) (sym x.1) (get_seam plans later []), unclear later s good_later x.2)
 
   pub is_left : (r : Refused) (place : Place) (op : Op) → (IsTaken later r.server → IsFirstTaken later r.server op) → IsFirstOf arbitrary plans later r → IsLeftBy arbitrary plans later r.generation (record { place = place; server = r.server; op = op; deleting = kinds.Delete })
@@ -75,14 +75,14 @@ module _ (arbitrary : ℕ → Bool) (trees : List Route) (tree : Route) where
   may_not_before g rows h = each_weaker May (NotBefore g) rows (λ place may s k r. absurd (not_refused (arbitrary s) (plans_at place trees) (tree_at_place tree place) s k (may s) r)) h
 
   -- at no place there is a refusal for an earlier generation
-  all_of : (rows : List Place) (g : ℕ) (found : Gap) → IsFirstLeft arbitrary trees tree rows g found → Each (NotBefore g) rows
+  all_of : (rows : List Place) (g : ℕ) (found : Gap) → IsFirstGapLeft arbitrary trees tree rows g found → Each (NotBefore g) rows
   all_of rows g found h =
       subst (Each (NotBefore g)) (sym h.stands)
       (each_append (NotBefore g) h.before (found.place ∷ h.after)
       (each_weaker (Later g) (NotBefore g) h.before (λ place f s k r. (let lt = f s k r in omega (arith, lt))) h.none_before)
       ((λ s k r. not_after (record { server = found.server; generation = g }) s k (h.here.first s k r)), h.none_after))
 
-  stays : (xs ys : List Place) (g : ℕ) (found : Gap) → IsFirstLeft arbitrary trees tree xs g found → Each (NotBefore g) ys → IsFirstLeft arbitrary trees tree (xs ++ ys) g found
+  stays : (xs ys : List Place) (g : ℕ) (found : Gap) → IsFirstGapLeft arbitrary trees tree xs g found → Each (NotBefore g) ys → IsFirstGapLeft arbitrary trees tree (xs ++ ys) g found
   stays xs ys g found h none = record {
     before = h.before;
     after = h.after ++ ys;
@@ -92,7 +92,7 @@ module _ (arbitrary : ℕ → Bool) (trees : List Route) (tree : Route) where
     none_after = each_append (NotBefore g) h.after ys h.none_after none;
   }
 
-  moves : (xs ys : List Place) (g : ℕ) (found : Gap) → Each (Later g) xs → IsFirstLeft arbitrary trees tree ys g found → IsFirstLeft arbitrary trees tree (xs ++ ys) g found
+  moves : (xs ys : List Place) (g : ℕ) (found : Gap) → Each (Later g) xs → IsFirstGapLeft arbitrary trees tree ys g found → IsFirstGapLeft arbitrary trees tree (xs ++ ys) g found
   moves xs ys g found none h = record {
     before = xs ++ h.before;
     after = h.after;

@@ -3,7 +3,7 @@ use Rattle.std.proofs.Common.{◌≡◌, ℕ, ◌<◌, ◌≤◌, Bool, true, fa
 use Rattle.fresh_runs.proofs.Lists.{get_last}
 use Rattle.fresh_runs.proofs.Stamps.{get_left, get_seam}
 use Rattle.route_tree.specs.Each.{Each}
-use Rattle.route_tree.specs.Plan.{Plan, IsGood}
+use Rattle.route_tree.specs.Plan.{Plan, IsGoodPlan}
 use Rattle.route_tree.proofs.Parts.{each_at}
 use Rattle.gate_coverage.specs.declared.deleting.Deleting.TheVariants as kinds
 use Rattle.gate_coverage.specs.Computed.{cleared}
@@ -17,14 +17,14 @@ pub none_is_sound : NoneIsSound
 none_is_sound arbitrary server i j a b le ga gb taken = absurd cc
 
 -- a plain tree clears the server, or doesn't
-pub clear_or_not : (p : Plan) (s : ℕ) → IsGood p → IsClear p s ⊎ (IsClear p s → ⊥)
+pub clear_or_not : (p : Plan) (s : ℕ) → IsGoodPlan p → IsClear p s ⊎ (IsClear p s → ⊥)
 clear_or_not p s good =
     ⊎_elim
     (λ t. inl (λ kind. (cleared_is_exact p kind s good).0 t))
     (λ f. inr (λ clear. let t = (cleared_is_exact p kinds.Delete s good).1 (clear kinds.Delete) in cc))
     (bool_is (cleared p s))
 
-module _ (arbitrary : Bool) (plans : List Plan) (later : Plan) (s : ℕ) (good : Each IsGood plans) (good_later : IsGood later) where
+module _ (arbitrary : Bool) (plans : List Plan) (later : Plan) (s : ℕ) (good : Each IsGoodPlan plans) (good_later : IsGoodPlan later) where
   abbrev more : List Plan
   more = plans ++ later ∷ []
 
@@ -68,7 +68,7 @@ module _ (arbitrary : Bool) (plans : List Plan) (later : Plan) (s : ℕ) (good :
         ⊎_elim (λ (any : arbitrary ≡ true). absurd (none i (a, ga, inl any, unclear))) (λ f. f) (bool_is arbitrary),
         (λ h p small got puts. none i (a, ga, inr (h, p, (omega (arith, small)), got, puts), unclear)),
       ))
-      (clear_or_not a s (each_at IsGood plans i a good ga))
+      (clear_or_not a s (each_at IsGoodPlan plans i a good ga))
 
   untouched_more : (i : ℕ) → i < length plans → Untouched plans i → Untouched more i
   untouched_more i lt u = (

@@ -8,7 +8,7 @@ use Rattle.fresh_runs.specs.Cover.{ClearsIn}
 use Rattle.route_tree.specs.Each.{Each, IsIn}
 use Rattle.route_tree.specs.Plan.{Plan}
 use Rattle.route_tree.specs.Servers.{servers}
-use Rattle.route_tree.specs.Word.{Given, Word}
+use Rattle.route_tree.specs.Word.{Given, PlanWord}
 use Rattle.route_tree.proofs.Parts.{each_at, each_weaker}
 use Rattle.route_tree.proofs.Places.{each_append}
 use Rattle.route_tree.proofs.Servers.{calls_stay}
@@ -32,7 +32,7 @@ no_clears xs s none (c ∷ calls) stay (inl h) = none (subst (λ x. IsIn x xs) h
 no_clears xs s none (c ∷ calls) stay (inr h) = no_clears xs s none calls stay.1 h
 
 -- a call of a word is of a server that the plain tree names
-called : (plain : Plan) (s : ℕ) (ask : Ask) (calls : List Call) (given : Given) → Word plain ask Client 0 calls given → (i : ℕ) (call : Call) → slice_get calls i ≡ Some call → call.server ≡ s → IsIn s (servers plain)
+called : (plain : Plan) (s : ℕ) (ask : Ask) (calls : List Call) (given : Given) → PlanWord plain ask Client 0 calls given → (i : ℕ) (call : Call) → slice_get calls i ≡ Some call → call.server ≡ s → IsIn s (servers plain)
 called plain s ask calls given w i call got is =
     subst (λ x. IsIn x (servers plain)) is (each_at (λ (c : Call). IsIn c.server (servers plain)) calls i call (calls_stay plain ask Client 0 calls given w).1 got)
 

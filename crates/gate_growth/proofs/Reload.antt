@@ -4,7 +4,7 @@ use Rattle.fresh_runs.proofs.Lists.{get_last}
 use Rattle.fresh_runs.proofs.Stamps.{get_left, get_seam}
 use Rattle.route_tree.specs.declared.place.Place.{Place}
 use Rattle.route_tree.specs.Each.{Each}
-use Rattle.route_tree.specs.Plan.{Plan, IsGood}
+use Rattle.route_tree.specs.Plan.{Plan, IsGoodPlan}
 use Rattle.route_tree.specs.Route.{Route, IsTree}
 use Rattle.route_tree.specs.Place.{prefix_text, tree_at_place}
 use Rattle.route_tree.proofs.Parts.{each_at}
@@ -42,7 +42,7 @@ tree_of_plan place [] i p e = absurd cc
 tree_of_plan place (t ∷ trees) zero p e = (t, refl, cc)
 tree_of_plan place (t ∷ trees) (suc i) p e = tree_of_plan place trees i p e
 
-pub plans_good : (place : Place) (trees : List Route) → Each IsTree trees → Each IsGood (plans_at place trees)
+pub plans_good : (place : Place) (trees : List Route) → Each IsTree trees → Each IsGoodPlan (plans_at place trees)
 plans_good place [] are = tt
 plans_good place (t ∷ trees) are = (good_plain t (prefix_text place.prefix) place.residue are.0, plans_good place trees are.1)
 

@@ -18,7 +18,7 @@ use Rattle.route_tree.specs.Plan.{Plan}
 use Rattle.route_tree.specs.Route.{Route, IsTree}
 use Rattle.route_tree.specs.At.{begins, plain_for, tree_at}
 use Rattle.route_tree.specs.Place.{sizes, prefixes, prefix_text, tree_at_place}
-use Rattle.route_tree.specs.Word.{Given, Word, tree_words}
+use Rattle.route_tree.specs.Word.{Given, PlanWord, tree_words}
 use Rattle.route_tree.proofs.Parts.{each_at}
 use Rattle.route_tree.proofs.Words.{IsOwn, own_calls}
 use Rattle.route_tree.proofs.Places.{each_append, each_left, each_right, tests}
@@ -106,7 +106,7 @@ module _ (arbitrary : ℕ → Bool) (trees : List Route) (are : Each IsTree tree
   takes_of : (m : ℕ) (ask : Ask) (key : List ℕ) → ask.key ≡ key → (calls : List Call) (reply : Answer) (from : Option ℕ) → tree_words plans m ask calls reply from → (server : ℕ) → TakesIn calls from server → IsTaken (plans m key) server
   takes_of m ask key same calls reply from word server takes =
       let given : Given = record { reply = reply; from = from } in
-      let w : Word (plans m key) ask Client 0 calls given = subst (λ k. Word (plans m k) ask Client 0 calls given) same word.1 in
+      let w : PlanWord (plans m key) ask Client 0 calls given = subst (λ k. PlanWord (plans m k) ask Client 0 calls given) same word.1 in
       let taking : IsTaking ask.op =
       ⊎_elim
       (λ f. from_takes (plans m key) ask Client 0 calls given word.0 w takes.0 f)
@@ -125,7 +125,7 @@ module _ (arbitrary : ℕ → Bool) (trees : List Route) (are : Each IsTree tree
       record {
         empty = ⊎_elim (λ e. e) (λ first. absurd (none 0 first.0 (omega arith) first.1 first.2)) (opens server key empty);
         unput = λ k ask lt same calls reply from word puts.
-            let w : Word (plans k key) ask Client 0 calls (record { reply = reply; from = from }) = subst (λ x. Word (plans k x) ask Client 0 calls (record { reply = reply; from = from })) same word.1 in
+            let w : PlanWord (plans k key) ask Client 0 calls (record { reply = reply; from = from }) = subst (λ x. PlanWord (plans k x) ask Client 0 calls (record { reply = reply; from = from })) same word.1 in
             none (loaded.generation k) (tree k) (loaded.rising k n lt) (loaded.loaded k) (ask, word.0, calls, reply, from, w, puts);
       }
 

@@ -12,15 +12,15 @@ use Rattle.fresh_runs.proofs.Lists.{only_one}
 use Rattle.fresh_runs.specs.Untouched.{IsPutting, PutsIn}
 use Rattle.route_tree.specs.Operation.{same_op}
 use Rattle.route_tree.specs.Plan.{Plan, Plans, PlanPolicies, Server, Null, Failing, AllSync, Failover, MissFailover, WarmUp, ByOperation, End, More, Otherwise, Policy}
-use Rattle.route_tree.specs.Word.{Given, rank, plain_get, refill, is_plain_get, Word, WordOfAll, WordOfFirst, WordOfHead, WordOfPolicy, AfterRefill, Refilled, AfterWarm, AfterCold, WarmUpWord}
+use Rattle.route_tree.specs.Word.{Given, rank, plain_get, refill, is_plain_get, PlanWord, WordOfAll, WordOfFirst, WordOfHead, WordOfPolicy, AfterRefill, Refilled, AfterWarm, AfterCold, WarmUpWord}
 use Rattle.route_tree.proofs.Parts.{each_at, match_bool}
 use Rattle.route_tree.proofs.Words.{IsOwn, own_calls}
-use Rattle.gate_coverage.specs.Computed.{asks_get, fails, hits}
+use Rattle.gate_coverage.specs.Computed.{asks_get, can_fail, hits}
 use Rattle.gate_coverage.proofs.Choices.{both, either_left, either_right, bool_is, if_true, if_false, true_match, false_match, by_get, only_get, only_other, is_get_of, no_get_of}
 use Rattle.gate_coverage.proofs.Failing.{word_fails, word_hits}
 use Rattle.gate_coverage.proofs.Copying.{refill_adds}
 use Rattle.gate_growth.specs.Puts.{Puts}
-use Rattle.gate_growth.specs.PutsComputed.{stores, stores_some, stores_first, stores_head, stores_policy, puts}
+use Rattle.gate_growth.specs.PutsComputed.{may_store, stores_some, may_store_first, stores_head, stores_policy, puts}
 use Rattle.gate_growth.proofs.Parted.{puts_either, puts_none}
 
 -- a get puts nothing
@@ -56,10 +56,10 @@ module _ (s : ℕ) (ask : Ask) (cold : ℕ → List Call → Given → Type 0) (
 
 module _ (s : ℕ) where
   abbrev T : Plan → Ask → Type 0
-  T p ask = stores ask.op s p ≡ true
+  T p ask = may_store ask.op s p ≡ true
 
   mutual
-    pub word_stores : (p : Plan) (ask : Ask) (origin : Origin) (b : ℕ) (calls : List Call) (given : Given) → Word p ask origin b calls given → PutsIn calls s → stores ask.op s p ≡ true
+    pub word_stores : (p : Plan) (ask : Ask) (origin : Origin) (b : ℕ) (calls : List Call) (given : Given) → PlanWord p ask origin b calls given → PutsIn calls s → may_store ask.op s p ≡ true
     word_stores (Server t) ask origin b calls given w h =
         let call : Call = record { server = t; ask = ask; origin = origin; outcome = w.0 } in
         let is : call ≡ h.1 = only_one call h.1 h.0 (subst (λ l. slice_get l h.0 ≡ Some h.1) w.2 h.2) in
@@ -75,35 +75,35 @@ module _ (s : ℕ) where
         (λ n. if_false (asks_get ask.op) _ _ (no_get_of ask.op n) (head_stores ps ask origin b calls given (only_other ask.op _ _ n w) h))
     word_stores (WarmUp cold warm e) ask origin b calls given w h =
         by_get ask.op _
-        (λ op. warm_up_puts s ask (Word cold ask origin) (Word warm (plain_get ask) origin) (λ hit i. Word cold (refill ask hit e) (CopyOf i)) (stores ask.op s (WarmUp cold warm e) ≡ true)
-        (λ b' c' g' w' k. either_left (stores ask.op s cold) _ (word_stores cold ask origin b' c' g' w' k))
-        (λ b' c' g' w' k. either_right (stores ask.op s cold) _ (both (asks_get ask.op) _ (is_get_of ask.op op) (either_left (stores Get s warm) _ (word_stores warm (plain_get ask) origin b' c' g' w' k))))
-        (λ b' d i c2 c3 g stored v z a k. either_right (stores ask.op s cold) _ (both (asks_get ask.op) _ (is_get_of ask.op op) (either_right (stores Get s warm) _ (both (hits Get warm) _ (word_hits warm (plain_get ask) origin b' c2 g v z) (subst (λ o. stores o s cold ≡ true) (refill_adds ask g.reply e) (word_stores cold (refill ask g.reply e) (CopyOf i) d c3 stored a k))))))
+        (λ op. warm_up_puts s ask (PlanWord cold ask origin) (PlanWord warm (plain_get ask) origin) (λ hit i. PlanWord cold (refill ask hit e) (CopyOf i)) (may_store ask.op s (WarmUp cold warm e) ≡ true)
+        (λ b' c' g' w' k. either_left (may_store ask.op s cold) _ (word_stores cold ask origin b' c' g' w' k))
+        (λ b' c' g' w' k. either_right (may_store ask.op s cold) _ (both (asks_get ask.op) _ (is_get_of ask.op op) (either_left (may_store Get s warm) _ (word_stores warm (plain_get ask) origin b' c' g' w' k))))
+        (λ b' d i c2 c3 g stored v z a k. either_right (may_store ask.op s cold) _ (both (asks_get ask.op) _ (is_get_of ask.op op) (either_right (may_store Get s warm) _ (both (hits Get warm) _ (word_hits warm (plain_get ask) origin b' c2 g v z) (subst (λ o. may_store o s cold ≡ true) (refill_adds ask g.reply e) (word_stores cold (refill ask g.reply e) (CopyOf i) d c3 stored a k))))))
         b calls given (only_get ask.op _ _ op w) h)
-        (λ n. either_left (stores ask.op s cold) _ (word_stores cold ask origin b calls given (only_other ask.op _ _ n w) h))
+        (λ n. either_left (may_store ask.op s cold) _ (word_stores cold ask origin b calls given (only_other ask.op _ _ n w) h))
     word_stores (ByOperation policies) ask origin b calls given w h = policy_stores policies ask origin b calls given w h
 
     all_stores : (ps : Plans) (ask : Ask) (origin : Origin) (b : ℕ) (calls : List Call) (all : List Given) → WordOfAll ps ask origin b calls all → PutsIn calls s → stores_some ask.op s ps ≡ true
     all_stores End ask origin b calls all w h = absurd (puts_none s (subst (λ l. PutsIn l s) w.0 h))
     all_stores (More p ps) ask origin b calls all w h =
-        ⊎_elim (λ l. either_left (stores ask.op s p) _ (word_stores p ask origin b w.0 w.3 w.4 l)) (λ r. either_right (stores ask.op s p) _ (all_stores ps ask origin (b + length w.0) w.1 w.5 w.7 r)) (puts_either s w.0 w.1 (subst (λ l. PutsIn l s) w.2 h))
+        ⊎_elim (λ l. either_left (may_store ask.op s p) _ (word_stores p ask origin b w.0 w.3 w.4 l)) (λ r. either_right (may_store ask.op s p) _ (all_stores ps ask origin (b + length w.0) w.1 w.5 w.7 r)) (puts_either s w.0 w.1 (subst (λ l. PutsIn l s) w.2 h))
 
-    first_stores : (ps : Plans) (ask : Ask) (origin : Origin) (b : ℕ) (calls : List Call) (given : Given) → WordOfFirst ps 4 ask origin b calls given → PutsIn calls s → stores_first ask.op s ps ≡ true
+    first_stores : (ps : Plans) (ask : Ask) (origin : Origin) (b : ℕ) (calls : List Call) (given : Given) → WordOfFirst ps 4 ask origin b calls given → PutsIn calls s → may_store_first ask.op s ps ≡ true
     first_stores End ask origin b calls given w h = absurd w
-    first_stores (More p ps) ask origin b calls given (inl w) h = either_left (stores ask.op s p) _ (word_stores p ask origin b calls given w.0 h)
+    first_stores (More p ps) ask origin b calls given (inl w) h = either_left (may_store ask.op s p) _ (word_stores p ask origin b calls given w.0 h)
     first_stores (More p ps) ask origin b calls given (inr w) h =
         ⊎_elim
-        (λ l. either_left (stores ask.op s p) _ (word_stores p ask origin b w.0 w.3 w.4 l))
-        (λ r. either_right (stores ask.op s p) _ (both (fails ask.op p) _ (word_fails p ask origin b w.0 w.3 w.4 w.5) (first_stores ps ask origin (b + length w.0) w.1 given w.6 r)))
+        (λ l. either_left (may_store ask.op s p) _ (word_stores p ask origin b w.0 w.3 w.4 l))
+        (λ r. either_right (may_store ask.op s p) _ (both (can_fail ask.op p) _ (word_fails p ask origin b w.0 w.3 w.4 w.5) (first_stores ps ask origin (b + length w.0) w.1 given w.6 r)))
         (puts_either s w.0 w.1 (subst (λ l. PutsIn l s) w.2 h))
 
     some_stores : (ps : Plans) (ask : Ask) (origin : Origin) (b : ℕ) (calls : List Call) (given : Given) → WordOfFirst ps 1 ask origin b calls given → PutsIn calls s → stores_some ask.op s ps ≡ true
     some_stores End ask origin b calls given w h = absurd w
-    some_stores (More p ps) ask origin b calls given (inl w) h = either_left (stores ask.op s p) _ (word_stores p ask origin b calls given w.0 h)
+    some_stores (More p ps) ask origin b calls given (inl w) h = either_left (may_store ask.op s p) _ (word_stores p ask origin b calls given w.0 h)
     some_stores (More p ps) ask origin b calls given (inr w) h =
         ⊎_elim
-        (λ l. either_left (stores ask.op s p) _ (word_stores p ask origin b w.0 w.3 w.4 l))
-        (λ r. either_right (stores ask.op s p) _ (some_stores ps ask origin (b + length w.0) w.1 given w.6 r))
+        (λ l. either_left (may_store ask.op s p) _ (word_stores p ask origin b w.0 w.3 w.4 l))
+        (λ r. either_right (may_store ask.op s p) _ (some_stores ps ask origin (b + length w.0) w.1 given w.6 r))
         (puts_either s w.0 w.1 (subst (λ l. PutsIn l s) w.2 h))
 
     head_stores : (ps : Plans) (ask : Ask) (origin : Origin) (b : ℕ) (calls : List Call) (given : Given) → WordOfHead ps ask origin b calls given → PutsIn calls s → stores_head ask.op s ps ≡ true
@@ -121,17 +121,17 @@ module _ (s : ℕ) where
 module _ (plain : Plan) (s : ℕ) where
   -- by the first operations of those that store
   abbrev pub by_two : Bool
-  by_two = stores Set s plain || stores Add s plain
+  by_two = may_store Set s plain || may_store Add s plain
 
   abbrev pub by_three : Bool
-  by_three = by_two || stores Replace s plain
+  by_three = by_two || may_store Replace s plain
 
   abbrev pub by_four : Bool
-  by_four = by_three || stores Cas s plain
+  by_four = by_three || may_store Cas s plain
 
-  by_putting : (op : Op) → IsPutting op → stores op s plain ≡ true → puts plain s ≡ true
-  by_putting Set p h = either_left by_four _ (either_left by_three _ (either_left by_two _ (either_left (stores Set s plain) _ h)))
-  by_putting Add p h = either_left by_four _ (either_left by_three _ (either_left by_two _ (either_right (stores Set s plain) _ h)))
+  by_putting : (op : Op) → IsPutting op → may_store op s plain ≡ true → puts plain s ≡ true
+  by_putting Set p h = either_left by_four _ (either_left by_three _ (either_left by_two _ (either_left (may_store Set s plain) _ h)))
+  by_putting Add p h = either_left by_four _ (either_left by_three _ (either_left by_two _ (either_right (may_store Set s plain) _ h)))
   by_putting Replace p h = either_left by_four _ (either_left by_three _ (either_right by_two _ h))
   by_putting Cas p h = either_left by_four _ (either_right by_three _ h)
   by_putting Get p h = absurd p
@@ -152,5 +152,5 @@ puts_are_computed plain s t =
     let stored = word_stores s plain ask Client 0 calls given t.5 h in
     ⊎_elim
     (λ own. by_putting plain s ask.op (subst (λ (a : Ask). IsPutting a.op) own.0 h.4) stored)
-    (λ get. either_right (by_four plain s) _ (subst (λ o. stores o s plain ≡ true) get stored))
+    (λ get. either_right (by_four plain s) _ (subst (λ o. may_store o s plain ≡ true) get stored))
     (each_at (IsOwn ask Client) calls h.0 h.1 (own_calls plain ask Client 0 calls given t.5) h.2)

@@ -1,8 +1,8 @@
 -- What is computed is what the words say.
 use Rattle.std.specs.Prelude.{◌↔◌, ℕ, IsTrue}
-use Rattle.route_tree.specs.Plan.{Plan, IsGood}
+use Rattle.route_tree.specs.Plan.{Plan, IsGoodPlan}
 use Rattle.gate_growth.specs.Puts.{Puts}
 use Rattle.gate_growth.specs.PutsComputed.{puts}
 
 abbrev pub PutsIsExact : Type 0
-PutsIsExact = (plain : Plan) (s : ℕ) → IsGood plain → IsTrue (puts plain s) ↔ Puts plain s
+PutsIsExact = (plain : Plan) (s : ℕ) → IsGoodPlan plain → IsTrue (puts plain s) ↔ Puts plain s

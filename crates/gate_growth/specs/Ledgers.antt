@@ -5,7 +5,7 @@ use Rattle.route_tree.specs.Route.{Route, IsTree}
 use Rattle.gate_check.specs.declared.gap.Gap.{Gap}
 use Rattle.gate_growth.specs.Pages.{AreBegun}
 use Rattle.gate_growth.specs.PlaceRows.{place_rows, AreRowsOf, AreTooManyPlaces}
-use Rattle.gate_growth.specs.LeftGaps.{IsFirstLeft}
+use Rattle.gate_growth.specs.LeftGaps.{IsFirstGapLeft}
 use Rattle.gate_growth.specs.Turning.{AreKnown}
 use Rattle.gate_growth.specs.Grown.{AreSoundSince}
 use Rattle.gate_growth.specs.declared.ledger.book.Ledger.{Ledger}
@@ -13,8 +13,8 @@ use Rattle.gate_growth.specs.declared.ledger.unsound.Unsound.{Unsound}
 use Rattle.gate_growth.specs.declared.ledger.unsound.Unsound.TheVariants as reasons
 
 -- so many servers are known to it
-abbrev pub server_count : Ledger → ℕ
-server_count ledger = length ledger.begun.items
+abbrev pub count_of_known : Ledger → ℕ
+count_of_known ledger = length ledger.begun.items
 
 -- the ledger of these trees, each of which was sound after those before it: it has the page of each place of all of them. An arbitrary server may hold anything before the first of them, or before its first call
 pub record IsLedgerOf (arbitrary : ℕ → Bool) (trees : List Route) (ledger : Ledger) : Type 0 where
@@ -22,7 +22,7 @@ pub record IsLedgerOf (arbitrary : ℕ → Bool) (trees : List Route) (ledger : 
   pub trees_are : Each IsTree trees
   pub sound : AreSoundSince arbitrary trees
   pub begun : AreBegun arbitrary ledger.begun.items
-  pub known : AreKnown arbitrary trees ledger.modulus (server_count ledger) ledger.classes.items
+  pub known : AreKnown arbitrary trees ledger.modulus (count_of_known ledger) ledger.classes.items
 
 -- the most generations that have a number
 abbrev pub most_generations : ℕ
@@ -35,7 +35,7 @@ pub record IsFirstLeftGap (arbitrary : ℕ → Bool) (trees : List Route) (tree 
   pub prefixes : List (Option (List ℕ))
   pub modulus : ℕ
   pub are_rows : AreRowsOf (trees ++ tree ∷ []) prefixes modulus
-  pub first : IsFirstLeft arbitrary trees tree (place_rows prefixes modulus) g found
+  pub first : IsFirstGapLeft arbitrary trees tree (place_rows prefixes modulus) g found
   pub unsound : AreSoundSince arbitrary (trees ++ tree ∷ []) → ⊥
 
 -- why the tree may not follow

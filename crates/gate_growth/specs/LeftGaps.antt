@@ -56,7 +56,7 @@ module _ (arbitrary : ℕ → Bool) (trees : List Route) (tree : Route) where
   IsRefusedNotBefore g place = (server h : ℕ) → IsRefusedThere place server h → g ≤ h
 
   -- the gap for the earliest generation, counted from 0; of that at the first of these places, in their order
-  pub record IsFirstLeft (rows : List Place) (g : ℕ) (found : Gap) : Type 0 where
+  pub record IsFirstGapLeft (rows : List Place) (g : ℕ) (found : Gap) : Type 0 where
     pub before : List Place
     pub after : List Place
     pub stands : rows ≡ before ++ found.place ∷ after
@@ -66,7 +66,7 @@ module _ (arbitrary : ℕ → Bool) (trees : List Route) (tree : Route) where
 
   -- the tree may follow at all of these places, or this is its first gap
   abbrev pub IfFirstLeft : List Place → Option LeftGap → Type 0
-  IfFirstLeft rows found = MatchOption found (Each MayFollowAt rows) (λ left. IsFirstLeft rows left.generation left.gap)
+  IfFirstLeft rows found = MatchOption found (Each MayFollowAt rows) (λ left. IsFirstGapLeft rows left.generation left.gap)
 
 -- the one of the earlier generation; of one generation the first
 abbrev pub earlier : Option LeftGap → Option LeftGap → Option LeftGap

@@ -2,7 +2,7 @@
 use Rattle.std.specs.Prelude.{◌≡◌, ◌↔◌, ℕ, suc, ◌<◌, ◌≤◌, Bool, true, false, List, [], ◌∷◌, ◌++◌, length, Some, MatchOption, IsTrue, ◌⊎◌, slice_get}
 use Rattle.mc_types.specs.declared.ask.Op.{Op}
 use Rattle.route_tree.specs.Each.{Each}
-use Rattle.route_tree.specs.Plan.{Plan, IsGood}
+use Rattle.route_tree.specs.Plan.{Plan, IsGoodPlan}
 use Rattle.gate_coverage.specs.declared.deleting.Deleting.{Deleting}
 use Rattle.gate_coverage.specs.Cover.{IsTaking, Takes, Clears}
 use Rattle.gate_growth.specs.Puts.{Puts}
@@ -61,5 +61,5 @@ NoneIsSound = (arbitrary : Bool) (server : ℕ) → IsSoundAt arbitrary [] serve
 -- one tree more is sound exactly where it may follow those before it
 abbrev pub FollowingIsSound : Type 0
 FollowingIsSound =
-    (arbitrary : Bool) (plans : List Plan) (later : Plan) (server : ℕ) → Each IsGood plans → IsGood later
+    (arbitrary : Bool) (plans : List Plan) (later : Plan) (server : ℕ) → Each IsGoodPlan plans → IsGoodPlan later
     → IsSoundAt arbitrary (plans ++ later ∷ []) server ↔ (IsSoundAt arbitrary plans server × MayStandAfter arbitrary plans later server)

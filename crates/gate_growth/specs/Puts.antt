@@ -7,10 +7,10 @@ use Rattle.mc_types.specs.Asks.{IsAsk}
 use Rattle.fresh_runs.specs.Calls.{Call}
 use Rattle.fresh_runs.specs.Untouched.{PutsIn}
 use Rattle.route_tree.specs.Plan.{Plan}
-use Rattle.route_tree.specs.Word.{Word}
+use Rattle.route_tree.specs.Word.{PlanWord}
 
 -- some word of some ask has a call of the server that asks for a set, an add, a replace or a cas, of the client's data or a copy, also where that call fails
 abbrev pub Puts : Plan → ℕ → Type 0
 Puts plain server =
     (ask : Ask) × IsAsk ask × (calls : List Call) × (reply : Answer) × (from : Option ℕ)
-    × Word plain ask Client 0 calls (record { reply = reply; from = from }) × PutsIn calls server
+    × PlanWord plain ask Client 0 calls (record { reply = reply; from = from }) × PutsIn calls server

@@ -5,7 +5,7 @@ use Rattle.route_json.specs.Servers.{Addresses}
 use Rattle.route_json.specs.Configuration.{Configuration}
 use Rattle.gate_growth.specs.Grown.{AreSoundSince}
 use Rattle.gate_growth.specs.Pages.{AreOpened}
-use Rattle.gate_growth.specs.Ledgers.{server_count, IsLedgerOf, IsUnsoundFor}
+use Rattle.gate_growth.specs.Ledgers.{count_of_known, IsLedgerOf, IsUnsoundFor}
 use Rattle.gate_growth.specs.declared.ledger.page.Beginning.{Beginning}
 use Rattle.gate_growth.specs.declared.ledger.book.Ledger.{Ledger}
 use Rattle.gate_growth.specs.declared.ledger.unsound.Unsound.{Unsound}
@@ -16,7 +16,7 @@ use Rattle.gate_history.specs.Judged.{Judges, IsUnsoundAfter}
 -- what the ledger answers of the configuration, whatever the trees were
 abbrev pub Answers : {R : Type 0} → Ledger → Configuration → Beginning → Result R Unsound → ((ℕ → Bool) → List Route → R → Type 0) → Type 0
 Answers ledger config new r Follows =
-    (arbitrary : ℕ → Bool) (trees : List Route) → IsLedgerOf arbitrary trees ledger → AreOpened arbitrary (server_count ledger) (length config.servers) new
+    (arbitrary : ℕ → Bool) (trees : List Route) → IsLedgerOf arbitrary trees ledger → AreOpened arbitrary (count_of_known ledger) (length config.servers) new
     → MatchResult r (Follows arbitrary trees) (IsUnsoundFor arbitrary trees config.tree)
 
 module _ (gs : List Generation) (ledger : Ledger) (config : Configuration) (new : Beginning) where
@@ -24,11 +24,11 @@ module _ (gs : List Generation) (ledger : Ledger) (config : Configuration) (new 
   judged (Ok u) k h = λ arbitrary opened. h arbitrary (generation_trees gs) (k.ledger_is arbitrary opened.0) (subst (λ n. AreOpened arbitrary n (length config.servers) new) (sym k.count) opened.1)
   judged (Err e) k h = λ arbitrary opened. h arbitrary (generation_trees gs) (k.ledger_is arbitrary opened.0) (subst (λ n. AreOpened arbitrary n (length config.servers) new) (sym k.count) opened.1)
 
-  pub unsound_after : (e : Unsound) → Knows gs ledger → ((arbitrary : ℕ → Bool) (trees : List Route) → IsLedgerOf arbitrary trees ledger → AreOpened arbitrary (server_count ledger) (length config.servers) new → IsUnsoundFor arbitrary trees config.tree e)
+  pub unsound_after : (e : Unsound) → Knows gs ledger → ((arbitrary : ℕ → Bool) (trees : List Route) → IsLedgerOf arbitrary trees ledger → AreOpened arbitrary (count_of_known ledger) (length config.servers) new → IsUnsoundFor arbitrary trees config.tree e)
       → IsUnsoundAfter gs config new e
   unsound_after e k h = λ arbitrary opened. h arbitrary (generation_trees gs) (k.ledger_is arbitrary opened.0) (subst (λ n. AreOpened arbitrary n (length config.servers) new) (sym k.count) opened.1)
 
-pub known_none : (gs : List Generation) (ledger : Ledger) → gs ≡ [] → server_count ledger ≡ 0 → ((arbitrary : ℕ → Bool) → IsLedgerOf arbitrary [] ledger) → Knows gs ledger
+pub known_none : (gs : List Generation) (ledger : Ledger) → gs ≡ [] → count_of_known ledger ≡ 0 → ((arbitrary : ℕ → Bool) → IsLedgerOf arbitrary [] ledger) → Knows gs ledger
 known_none gs ledger none count is = subst (λ (l : List Generation). Knows l ledger) (sym none) (record { count = count; ledger_is = λ arbitrary opened. is arbitrary })
 
 count_push : (n : ℕ) (gs : List Generation) (g : Generation) → count_after n (gs ++ g ∷ []) ≡ max (count_after n gs) (length g.config.servers)
@@ -43,8 +43,8 @@ trees_push : (gs : List Generation) (g : Generation) → generation_trees (gs ++
 trees_push [] g = refl
 trees_push (h ∷ gs) g = ap (λ (l : List Route). h.config.tree ∷ l) (trees_push gs g)
 
-pub known_next : (gs new : List Generation) (g : Generation) (old ledger : Ledger) → Knows gs old → new ≡ gs ++ g ∷ [] → server_count ledger ≡ max (server_count old) (length g.config.servers)
-    → ((arbitrary : ℕ → Bool) (trees : List Route) → IsLedgerOf arbitrary trees old → AreOpened arbitrary (server_count old) (length g.config.servers) g.began → IsLedgerOf arbitrary (trees ++ g.config.tree ∷ []) ledger)
+pub known_next : (gs new : List Generation) (g : Generation) (old ledger : Ledger) → Knows gs old → new ≡ gs ++ g ∷ [] → count_of_known ledger ≡ max (count_of_known old) (length g.config.servers)
+    → ((arbitrary : ℕ → Bool) (trees : List Route) → IsLedgerOf arbitrary trees old → AreOpened arbitrary (count_of_known old) (length g.config.servers) g.began → IsLedgerOf arbitrary (trees ++ g.config.tree ∷ []) ledger)
     → Knows new ledger
 known_next gs new g old ledger k is count follows =
     subst (λ (l : List Generation). Knows l ledger) (sym is) (record {
@@ -58,11 +58,11 @@ known_next gs new g old ledger k is count follows =
 -- whether or not it may follow
 abbrev pub Follows : Generation → Ledger → Ledger → Result (Unit {0}) Unsound → Type 0
 Follows g old ledger r =
-    (arbitrary : ℕ → Bool) (trees : List Route) → IsLedgerOf arbitrary trees old → AreOpened arbitrary (server_count old) (length g.config.servers) g.began
+    (arbitrary : ℕ → Bool) (trees : List Route) → IsLedgerOf arbitrary trees old → AreOpened arbitrary (count_of_known old) (length g.config.servers) g.began
     → MatchResult r (λ _. IsLedgerOf arbitrary (trees ++ g.config.tree ∷ []) ledger) (IsUnsoundFor arbitrary trees g.config.tree)
 
 pub known_after : (gs new : List Generation) (g : Generation) (old ledger : Ledger) (r : Result (Unit {0}) Unsound) → Knows gs old → OnOk r (new ≡ gs ++ g ∷ [])
-    → OnOk r (server_count ledger ≡ max (server_count old) (length g.config.servers)) → Follows g old ledger r → OnErr r ((ledger ≡ old) × (new ≡ gs)) → Knows new ledger
+    → OnOk r (count_of_known ledger ≡ max (count_of_known old) (length g.config.servers)) → Follows g old ledger r → OnErr r ((ledger ≡ old) × (new ≡ gs)) → Knows new ledger
 known_after gs new g old ledger (Ok u) k is count follows same = known_next gs new g old ledger k is count follows
 known_after gs new g old ledger (Err e) k is count follows same = subst (λ (l : Ledger). Knows new l) (sym same.0) (subst (λ (l : List Generation). Knows l old) (sym same.1) k)
 

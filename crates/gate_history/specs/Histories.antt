@@ -5,7 +5,7 @@ use Rattle.route_tree.specs.Route.{Route}
 use Rattle.route_json.specs.Servers.{Addresses}
 use Rattle.route_json.specs.Configs.{read_after}
 use Rattle.gate_growth.specs.Pages.{AreOpened}
-use Rattle.gate_growth.specs.Ledgers.{server_count, IsLedgerOf}
+use Rattle.gate_growth.specs.Ledgers.{count_of_known, IsLedgerOf}
 use Rattle.gate_growth.specs.declared.ledger.book.Ledger.{Ledger}
 use Rattle.gate_history.specs.declared.generation.Generation.{Generation}
 use Rattle.gate_history.specs.Spelled.{generation_line}
@@ -32,7 +32,7 @@ AreOpenedBy arbitrary n (g ∷ gs) = AreOpened arbitrary n (length g.config.serv
 
 -- the ledger is the one of these generations, whichever servers are arbitrary, if they began so
 pub record Knows (gs : List Generation) (ledger : Ledger) : Type 0 where
-  pub count : server_count ledger ≡ count_after 0 gs
+  pub count : count_of_known ledger ≡ count_after 0 gs
   pub ledger_is : (arbitrary : ℕ → Bool) → AreOpenedBy arbitrary 0 gs → IsLedgerOf arbitrary (generation_trees gs) ledger
 
 -- the line says this generation, of this number, after these servers

@@ -3,7 +3,7 @@
 ghost use Rattle.std.specs.Prelude.{◌≡◌, ◌<◌, ◌≤◌, ◌+◌, ℕ, Bool, List, [], ◌∷◌, ◌++◌, length, max, vec_len, vec_capacity, IfOk, IfErr, OnOk, OnErr, MatchOption, MatchResult};
 ghost use Rattle.route_tree.specs.Route.{Route};
 ghost use Rattle.gate_growth.specs.Pages.{AreOpened};
-ghost use Rattle.gate_growth.specs.Ledgers.{server_count, IsLedgerOf, IsUnsoundFor};
+ghost use Rattle.gate_growth.specs.Ledgers.{count_of_known, IsLedgerOf, IsUnsoundFor};
 ghost use Rattle.gate_history.specs.Histories.{servers_after};
 ghost use Rattle.gate_history.specs.Judged.{AreSoundBy, Judges, IsUnsoundAfter, most_lines};
 
@@ -135,8 +135,8 @@ fn take_next(
     new: Beginning,
 ) -> Result<(), Unsound>
     ensures taken { OnOk result (generations.new.items ≡ generations.old.items ++ record { config = config; began = new } ∷ []) }
-    ensures followed { (arbitrary : ℕ → Bool) (trees : List Route) → IsLedgerOf arbitrary trees ledger.old → AreOpened arbitrary (server_count ledger.old) (length config.servers) new → MatchResult result (λ _. IsLedgerOf arbitrary (trees ++ config.tree ∷ []) ledger.new) (IsUnsoundFor arbitrary trees config.tree) }
-    ensures servers { OnOk result (server_count ledger.new ≡ max (server_count ledger.old) (length config.servers)) }
+    ensures followed { (arbitrary : ℕ → Bool) (trees : List Route) → IsLedgerOf arbitrary trees ledger.old → AreOpened arbitrary (count_of_known ledger.old) (length config.servers) new → MatchResult result (λ _. IsLedgerOf arbitrary (trees ++ config.tree ∷ []) ledger.new) (IsUnsoundFor arbitrary trees config.tree) }
+    ensures servers { OnOk result (count_of_known ledger.new ≡ max (count_of_known ledger.old) (length config.servers)) }
     ensures same { OnErr result ((ledger.new ≡ ledger.old) × (generations.new.items ≡ generations.old.items)) }
 {
     if generations.reserve(1).is_err() {

@@ -3,13 +3,13 @@ use Rattle.std.specs.Prelude.{ℕ, List, codes}
 use Rattle.gate_picture.specs.declared.phrases.Phrase.{Phrase}
 use Rattle.gate_picture.specs.declared.phrases.Phrase.TheVariants as phrases
 
-unfoldable pub text_of : Phrase → List ℕ
-text_of phrases.Graph = codes "strict digraph mcgate {"
-text_of phrases.Direction = codes "  rankdir=LR;"
-text_of phrases.Label = codes " [label=\""
-text_of phrases.End = codes "\"];"
-text_of phrases.Boxed = codes "\", shape=box];"
-text_of phrases.Red = codes " [color=red];"
-text_of phrases.LabelRed = codes "\", color=red];"
-text_of phrases.LabelThick = codes "\", shape=box, color=red, penwidth=2];"
-text_of phrases.NotCleared = codes "\\nnot cleared by "
+unfoldable pub picture_text : Phrase → List ℕ
+picture_text phrases.Graph = codes "strict digraph mcgate {"
+picture_text phrases.Direction = codes "  rankdir=LR;"
+picture_text phrases.Label = codes " [label=\""
+picture_text phrases.End = codes "\"];"
+picture_text phrases.Boxed = codes "\", shape=box];"
+picture_text phrases.Red = codes " [color=red];"
+picture_text phrases.LabelRed = codes "\", color=red];"
+picture_text phrases.LabelThick = codes "\", shape=box, color=red, penwidth=2];"
+picture_text phrases.NotCleared = codes "\\nnot cleared by "

@@ -9,28 +9,28 @@ use Rattle.gate_gaps.specs.Pools.{NamedPools}
 use Rattle.gate_gaps.specs.PoolWords.{places_text}
 use Rattle.gate_gaps.specs.declared.spelling.Spelling.TheVariants as spellings
 use Rattle.gate_picture.specs.Labels.{one_text, run_text, prefix_run_text}
-use Rattle.gate_picture.specs.Phrases.{text_of}
+use Rattle.gate_picture.specs.Phrases.{picture_text}
 use Rattle.gate_gaps.specs.Quoting.{quoted}
 use Rattle.gate_picture.specs.declared.phrases.Phrase.{Phrase}
 use Rattle.gate_picture.specs.declared.phrases.Phrase.TheVariants as phrases
 
 -- the front of the graph
 unfoldable pub graph_lines : List ℕ
-graph_lines = text_of phrases.Graph ++ codes "\n" ++ text_of phrases.Direction ++ codes "\n"
+graph_lines = picture_text phrases.Graph ++ codes "\n" ++ picture_text phrases.Direction ++ codes "\n"
 
 -- how many more children an edge leads to
 abbrev pub more_text : ℕ → List ℕ
 more_text more = if more == 0 then [] else codes " and " ++ decimal more ++ codes " more"
 
 unfoldable pub edge_front : ℕ → (label : List ℕ) → ℕ → List ℕ
-edge_front parent label n = codes "  r" ++ decimal parent ++ codes " -> r" ++ decimal n ++ text_of phrases.Label ++ label
+edge_front parent label n = codes "  r" ++ decimal parent ++ codes " -> r" ++ decimal n ++ picture_text phrases.Label ++ label
 
 -- the edge from a route to one of its children, and to so many more
 unfoldable pub edge_line : ℕ → (label : List ℕ) → (more : ℕ) → ℕ → List ℕ
-edge_line parent label more n = edge_front parent label n ++ more_text more ++ text_of phrases.End ++ codes "\n"
+edge_line parent label more n = edge_front parent label n ++ more_text more ++ picture_text phrases.End ++ codes "\n"
 
 unfoldable pub node_front : ℕ → List ℕ
-node_front n = codes "  r" ++ decimal n ++ text_of phrases.Label
+node_front n = codes "  r" ++ decimal n ++ picture_text phrases.Label
 
 -- pools and servers are boxes
 abbrev pub end_phrase : Route → Phrase
@@ -46,7 +46,7 @@ end_phrase (ByOperation ps) = phrases.End
 end_phrase (ByPrefix ps) = phrases.End
 
 unfoldable pub node_end : Route → List ℕ
-node_end r = text_of (end_phrase r) ++ codes "\n"
+node_end r = picture_text (end_phrase r) ++ codes "\n"
 
 -- the node of one route
 abbrev pub node_line : Addresses → NamedPools → ℕ → Route → List ℕ
@@ -62,11 +62,11 @@ prefix_run_line servers pools n more r ps = node_front n ++ prefix_run_text serv
 
 -- the node of a route is marked
 unfoldable pub red_node_line : ℕ → List ℕ
-red_node_line n = codes "  r" ++ decimal n ++ text_of phrases.Red ++ codes "\n"
+red_node_line n = codes "  r" ++ decimal n ++ picture_text phrases.Red ++ codes "\n"
 
 -- the edge from a route to one of its children is marked
 unfoldable pub red_edge_line : ℕ → (label : List ℕ) → ℕ → List ℕ
-red_edge_line parent label n = edge_front parent label n ++ text_of phrases.LabelRed ++ codes "\n"
+red_edge_line parent label n = edge_front parent label n ++ picture_text phrases.LabelRed ++ codes "\n"
 
 -- this edge and the node that stands for the child are marked
 unfoldable pub step_lines : ℕ → (label : List ℕ) → ℕ → List ℕ
@@ -74,13 +74,13 @@ step_lines parent label n = red_edge_line parent label n ++ red_node_line n
 
 -- the edge by which the operation reaches the server
 unfoldable pub read_line : ℕ → ℕ → Op → List ℕ
-read_line n server op = codes "  r" ++ decimal n ++ codes " -> s" ++ decimal server ++ text_of phrases.Label ++ op_name op ++ text_of phrases.LabelRed ++ codes "\n"
+read_line n server op = codes "  r" ++ decimal n ++ codes " -> s" ++ decimal server ++ picture_text phrases.Label ++ op_name op ++ picture_text phrases.LabelRed ++ codes "\n"
 
 unfoldable pub left_front : ℕ → (address : List ℕ) → List ℕ
-left_front server address = codes "  s" ++ decimal server ++ text_of phrases.Label ++ quoted address
+left_front server address = codes "  s" ++ decimal server ++ picture_text phrases.Label ++ quoted address
 
 unfoldable pub left_end : Deleting → List ℕ
-left_end kind = text_of phrases.NotCleared ++ delete_name kind ++ text_of phrases.LabelThick ++ codes "\n"
+left_end kind = picture_text phrases.NotCleared ++ delete_name kind ++ picture_text phrases.LabelThick ++ codes "\n"
 
 -- the server that the delete leaves
 abbrev pub left_server_line : Addresses → NamedPools → ℕ → Deleting → List ℕ

@@ -1,7 +1,7 @@
 //! The fixed texts of a picture.
 
 ghost use Rattle.std.specs.Prelude.{◌≡◌};
-ghost use Rattle.gate_picture.specs.Phrases.{text_of};
+ghost use Rattle.gate_picture.specs.Phrases.{picture_text};
 
 /// A fixed text of a statement.
 #[derive(Clone, Copy)]
@@ -22,9 +22,9 @@ pub enum Phrase {
 }
 
 /// The text.
-#[tactic(auto, unfolding(crate::specs::Phrases::text_of))]
+#[tactic(auto, unfolding(crate::specs::Phrases::picture_text))]
 pub fn text_of(phrase: Phrase) -> &'static str
-    ensures { result.now ≡ text_of phrase }
+    ensures { result.now ≡ picture_text phrase }
 {
     match phrase {
         Phrase::Graph => "strict digraph mcgate {",

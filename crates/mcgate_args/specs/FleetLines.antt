@@ -39,10 +39,10 @@ abbrev pub pair_gap_line : Addresses → (reads deletes : List ℕ) → Gap → 
 pair_gap_line servers reads deletes gap = pair_head reads deletes ++ gap_fields servers gap
 
 -- the steps from selectors to their children
-unfoldable pub step_text : ChildStep → List ℕ
-step_text steps.Default = codes "/default_policy"
-step_text steps.Get = codes "/operation_policies/get"
-step_text steps.Wildcard = codes "/wildcard"
+unfoldable pub copy_step_text : ChildStep → List ℕ
+copy_step_text steps.Default = codes "/default_policy"
+copy_step_text steps.Get = codes "/operation_policies/get"
+copy_step_text steps.Wildcard = codes "/wildcard"
 
 abbrev pub step_to_child : ℕ → List ℕ
 step_to_child index = codes "/children/" ++ decimal index
@@ -72,12 +72,12 @@ module _ (text : List ℕ) where
 
     -- by the policy of gets, else by the default
     pub copy_path_by : Policies → List ℕ
-    copy_path_by (Otherwise r) = step_text steps.Default ++ copy_path r
-    copy_path_by (Policy op r ps) = if same_op op Get then step_text steps.Get ++ copy_path r else copy_path_by ps
+    copy_path_by (Otherwise r) = copy_step_text steps.Default ++ copy_path r
+    copy_path_by (Policy op r ps) = if same_op op Get then copy_step_text steps.Get ++ copy_path r else copy_path_by ps
 
     -- by the policy of this length that begins the text, else by the wildcard
     pub copy_path_begun : (longest : ℕ) → Prefixes → List ℕ
-    copy_path_begun longest (Wildcard r) = step_text steps.Wildcard ++ copy_path r
+    copy_path_begun longest (Wildcard r) = copy_step_text steps.Wildcard ++ copy_path r
     copy_path_begun longest (Prefix p r ps) = if begins p text && length p == longest then step_to_policy p ++ copy_path r else copy_path_begun longest ps
 
 -- the prefix and the file, and the line's end

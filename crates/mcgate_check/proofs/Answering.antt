@@ -16,7 +16,7 @@ use Rattle.wire_stream.specs.Version.{default_version}
 use Rattle.route_tree.specs.At.{tree_at}
 use Rattle.route_tree.specs.Direct.{words_of}
 use Rattle.route_tree.specs.Place.{tree_at_place}
-use Rattle.route_tree.specs.Plan.{Plan, IsGood}
+use Rattle.route_tree.specs.Plan.{Plan, IsGoodPlan}
 use Rattle.route_tree.specs.Route.{Route, IsTree}
 use Rattle.route_tree.specs.Word.{answer_of_nothing, tree_words}
 use Rattle.route_tree.proofs.Places.{place_is_enough}
@@ -39,7 +39,7 @@ use Rattle.core_proxy.specs.Claims.{bars_by}
 use Rattle.core_commands.specs.declared.sharing.Sharing.TheVariants.{Alone}
 use Rattle.script_run.specs.Standing.{tree_by}
 use Rattle.script_run.specs.Driving.{DrivesStepped, FollowsBy}
-use Rattle.gate_gaps.specs.Turns.{acks, finds}
+use Rattle.gate_gaps.specs.Turns.{acks, calls_before_found}
 use Rattle.gate_gaps.specs.Bait.{delete_of, read_of, bait_answer}
 use Rattle.gate_gaps.specs.Scripts.{Leaks}
 use Rattle.gate_gaps.proofs.Beside.{gaps_have_words}
@@ -67,9 +67,9 @@ both_none (Some d) None e a b = absurd (cc)
 both_none (Some d) (Some r) e a b = cc
 
 -- the computed script
-module _ (config : Configuration) (gap : Gap) (key : List ℕ) (f : Failures) (taking : IsTaking gap.op) (first : IsFirstKeyTried config.tree gap.place key) (computed : failures_of gap.op gap.server (tree_at config.tree key) ≡ Some f) (good : IsGood (tree_at config.tree key)) (is_tree : IsTree config.tree) (below : IsBelow (length config.servers) config.tree) where
-  numbers : (acks gap.server (tree_at config.tree key) ≡ Some f.delete) × (finds gap.op gap.server (tree_at config.tree key) ≡ Some f.read)
-  numbers = both_are (acks gap.server (tree_at config.tree key)) (finds gap.op gap.server (tree_at config.tree key)) f computed
+module _ (config : Configuration) (gap : Gap) (key : List ℕ) (f : Failures) (taking : IsTaking gap.op) (first : IsFirstKeyTried config.tree gap.place key) (computed : failures_of gap.op gap.server (tree_at config.tree key) ≡ Some f) (good : IsGoodPlan (tree_at config.tree key)) (is_tree : IsTree config.tree) (below : IsBelow (length config.servers) config.tree) where
+  numbers : (acks gap.server (tree_at config.tree key) ≡ Some f.delete) × (calls_before_found gap.op gap.server (tree_at config.tree key) ≡ Some f.read)
+  numbers = both_are (acks gap.server (tree_at config.tree key)) (calls_before_found gap.op gap.server (tree_at config.tree key)) f computed
 
   abbrev events : List Scripted
   events = script_for gap.server key gap.op f.delete f.read
@@ -115,18 +115,18 @@ driven_run config gap key script first none is shows = record {
 }
 
 -- where no script is computed for a gap, an all-sync or a warm-up stands in the way
-pub none_roundabout : (tree : Route) (gap : Gap) (key : List ℕ) → IsTree tree → IsFirstKeyTried tree gap.place key → IsGood (tree_at tree key) → failures_of gap.op gap.server (tree_at tree key) ≡ None → IsRealGap tree gap → IsRoundabout tree gap
+pub none_roundabout : (tree : Route) (gap : Gap) (key : List ℕ) → IsTree tree → IsFirstKeyTried tree gap.place key → IsGoodPlan (tree_at tree key) → failures_of gap.op gap.server (tree_at tree key) ≡ None → IsRealGap tree gap → IsRoundabout tree gap
 none_roundabout tree gap key is_tree first good none real direct1 direct2 =
     let plain = tree_at_place tree gap.place in
     let same : tree_at tree key ≡ plain = place_is_enough tree key gap.place is_tree first.is_key.at in
-    let good' : IsGood plain = subst IsGood same good in
-    both_none (acks gap.server plain) (finds gap.op gap.server plain) (subst (λ (p : Plan). failures_of gap.op gap.server p ≡ None) same none)
+    let good' : IsGoodPlan plain = subst IsGoodPlan same good in
+    both_none (acks gap.server plain) (calls_before_found gap.op gap.server plain) (subst (λ (p : Plan). failures_of gap.op gap.server p ≡ None) same none)
     (gaps_have_words.kept plain gap.server gap.deleting good' direct1 real.gap_at.uncleared)
     (gaps_have_words.taken plain gap.op gap.server good' direct2 real.gap_at.taken)
 
-pub none_answer : (tree t : Route) (gap : Gap) (key : List ℕ) (f : Option Failures) → t ≡ tree → IsTree t → IsFirstKeyTried tree gap.place key → IsGood (tree_at t key) → f ≡ failures_of gap.op gap.server (tree_at t key) → f ≡ None → IsRealGap tree gap → MayLack tree gap
+pub none_answer : (tree t : Route) (gap : Gap) (key : List ℕ) (f : Option Failures) → t ≡ tree → IsTree t → IsFirstKeyTried tree gap.place key → IsGoodPlan (tree_at t key) → f ≡ failures_of gap.op gap.server (tree_at t key) → f ≡ None → IsRealGap tree gap → MayLack tree gap
 none_answer tree t gap key f e is_tree first good computed none real =
-    inr (none_roundabout tree gap key (subst IsTree e is_tree) first (subst (λ (r : Route). IsGood (tree_at r key)) e good) (subst (λ (r : Route). failures_of gap.op gap.server (tree_at r key) ≡ None) e (sym computed ∙ none)) real)
+    inr (none_roundabout tree gap key (subst IsTree e is_tree) first (subst (λ (r : Route). IsGoodPlan (tree_at r key)) e good) (subst (λ (r : Route). failures_of gap.op gap.server (tree_at r key) ≡ None) e (sym computed ∙ none)) real)
 
 pub answered : (config : Configuration) (gap : Gap) (found : Option Script) → IfSome found (λ script. IsRefusalRun config gap (map scripted_of script.events.items)) → (IsRealGap config.tree gap → MayLack config.tree gap) → IsLeakAnswer config gap found
 answered config gap None h n = n

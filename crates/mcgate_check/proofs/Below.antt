@@ -11,8 +11,8 @@ use Rattle.route_tree.specs.Route.{Route, Routes, Policies, Prefixes, Pool, Serv
 use Rattle.route_tree.specs.At.{begins, is_longer, plain_for, plain_for_all, plain_for_policies, plain_for_prefixes, tree_at}
 use Rattle.route_json.specs.Fits.{IsBelow, AreBelow, ArePoliciesBelow, ArePrefixesBelow}
 use Rattle.route_json.specs.Pools.{AllBelow}
-use Rattle.gate_coverage.specs.Computed.{asks_get, fails}
-use Rattle.gate_gaps.specs.Turns.{or_that, counted_after, tries, finds, finds_first, finds_some, finds_head, finds_policy}
+use Rattle.gate_coverage.specs.Computed.{asks_get, can_fail}
+use Rattle.gate_gaps.specs.Turns.{or_that, counted_after, tries, calls_before_found, finds_first, finds_some, finds_head, finds_policy}
 
 slot_below : (bound : ℕ) (servers : List ℕ) (i : ℕ) → AllBelow bound servers → i < length servers → slice_index servers i < bound
 slot_below bound [] i h lt = absurd (omega (arith, lt))
@@ -103,29 +103,29 @@ module _ (bound : ℕ) (op : Op) (s : ℕ) where
   server_below t n false e found below = none_some n (s < bound) found
 
   mutual
-    found_below : (p : Plan) (n : ℕ) → finds op s p ≡ Some n → IsPlanBelow bound p → s < bound
+    found_below : (p : Plan) (n : ℕ) → calls_before_found op s p ≡ Some n → IsPlanBelow bound p → s < bound
     found_below (plan.Server t) n e below = server_below t n (nat_eq t s) refl e below
     found_below plan.Null n e below = none_some n (s < bound) e
     found_below plan.Failing n e below = none_some n (s < bound) e
     found_below (plan.AllSync ps) n e below = none_some n (s < bound) e
     found_below (plan.Failover ps) n e below = first_below ps n e below
     found_below (plan.MissFailover ps) n e below = cond_some (asks_get op) (finds_some op s ps) (finds_head op s ps) n (s < bound) e (λ x. some_below ps n x below) (λ x. head_below ps n x below)
-    found_below (plan.WarmUp cold warm t) n e below = cond_some (asks_get op) None (finds op s cold) n (s < bound) e (λ x. none_some n (s < bound) x) (λ x. found_below cold n x below.0)
+    found_below (plan.WarmUp cold warm t) n e below = cond_some (asks_get op) None (calls_before_found op s cold) n (s < bound) e (λ x. none_some n (s < bound) x) (λ x. found_below cold n x below.0)
     found_below (plan.ByOperation ps) n e below = policy_below ps n e below
 
     first_below : (ps : Plans) (n : ℕ) → finds_first op s ps ≡ Some n → ArePlansBelow bound ps → s < bound
     first_below plan.End n e below = none_some n (s < bound) e
     first_below (plan.More p ps) n e below =
-        or_else_some (finds op s p) (cond (fails op p) (counted_after (tries op p) (finds_first op s ps)) None) n (s < bound) e
+        or_else_some (calls_before_found op s p) (cond (can_fail op p) (counted_after (tries op p) (finds_first op s ps)) None) n (s < bound) e
         (λ m x. found_below p m x below.0)
-        (λ m x. cond_some (fails op p) (counted_after (tries op p) (finds_first op s ps)) None m (s < bound) x
+        (λ m x. cond_some (can_fail op p) (counted_after (tries op p) (finds_first op s ps)) None m (s < bound) x
         (λ y. after_some (tries op p) (finds_first op s ps) m (s < bound) y (λ k z. first_below ps k z below.1))
         (λ y. none_some m (s < bound) y))
 
     some_below : (ps : Plans) (n : ℕ) → finds_some op s ps ≡ Some n → ArePlansBelow bound ps → s < bound
     some_below plan.End n e below = none_some n (s < bound) e
     some_below (plan.More p ps) n e below =
-        or_else_some (finds op s p) (counted_after (tries op p) (finds_some op s ps)) n (s < bound) e
+        or_else_some (calls_before_found op s p) (counted_after (tries op p) (finds_some op s ps)) n (s < bound) e
         (λ m x. found_below p m x below.0)
         (λ m x. after_some (tries op p) (finds_some op s ps) m (s < bound) x (λ k z. some_below ps k z below.1))
 
@@ -136,9 +136,9 @@ module _ (bound : ℕ) (op : Op) (s : ℕ) where
     policy_below : (ps : PlanPolicies) (n : ℕ) → finds_policy op s ps ≡ Some n → ArePlanPoliciesBelow bound ps → s < bound
     policy_below (plan.Otherwise p) n e below = found_below p n e below
     policy_below (plan.Policy o p rest) n e below =
-        cond_some (same_op o op) (finds op s p) (finds_policy op s rest) n (s < bound) e (λ x. found_below p n x below.0) (λ x. policy_below rest n x below.1)
+        cond_some (same_op o op) (calls_before_found op s p) (finds_policy op s rest) n (s < bound) e (λ x. found_below p n x below.0) (λ x. policy_below rest n x below.1)
 
 -- the server that a read of the key shows is below a bound of the tree's
-pub found_is_below : (bound : ℕ) (tree : Route) (key : List ℕ) (op : Op) (server n : ℕ) → IsTree tree → IsBelow bound tree → finds op server (tree_at tree key) ≡ Some n → server < bound
+pub found_is_below : (bound : ℕ) (tree : Route) (key : List ℕ) (op : Op) (server n : ℕ) → IsTree tree → IsBelow bound tree → calls_before_found op server (tree_at tree key) ≡ Some n → server < bound
 found_is_below bound tree key op server n is_tree below found =
     found_below bound op server (tree_at tree key) n found (plain_below bound (key_hash key) key tree is_tree.good below)

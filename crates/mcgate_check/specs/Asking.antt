@@ -7,25 +7,25 @@ use Rattle.gate_coverage.specs.Computed.{asks_get}
 
 module _ (op : Op) where
   abbrev mutual
-    pub asked : Plan → List ℕ
-    asked (Server s) = s ∷ []
-    asked Null = []
-    asked Failing = []
-    asked (AllSync ps) = asked_of_all ps
-    asked (Failover ps) = asked_of_all ps
-    asked (MissFailover ps) = if asks_get op then asked_of_all ps else asked_of_head ps
-    asked (WarmUp cold warm e) = if asks_get op then asked cold ++ asked warm else asked cold
-    asked (ByOperation ps) = asked_by ps
+    pub servers_asked : Plan → List ℕ
+    servers_asked (Server s) = s ∷ []
+    servers_asked Null = []
+    servers_asked Failing = []
+    servers_asked (AllSync ps) = asked_of_all ps
+    servers_asked (Failover ps) = asked_of_all ps
+    servers_asked (MissFailover ps) = if asks_get op then asked_of_all ps else asked_of_head ps
+    servers_asked (WarmUp cold warm e) = if asks_get op then servers_asked cold ++ servers_asked warm else servers_asked cold
+    servers_asked (ByOperation ps) = servers_asked_by ps
 
     pub asked_of_all : Plans → List ℕ
     asked_of_all End = []
-    asked_of_all (More p ps) = asked p ++ asked_of_all ps
+    asked_of_all (More p ps) = servers_asked p ++ asked_of_all ps
 
     pub asked_of_head : Plans → List ℕ
     asked_of_head End = []
-    asked_of_head (More p ps) = asked p
+    asked_of_head (More p ps) = servers_asked p
 
     -- the child of the operation, else the default
-    pub asked_by : PlanPolicies → List ℕ
-    asked_by (Otherwise p) = asked p
-    asked_by (Policy o p ps) = if same_op o op then asked p else asked_by ps
+    pub servers_asked_by : PlanPolicies → List ℕ
+    servers_asked_by (Otherwise p) = servers_asked p
+    servers_asked_by (Policy o p ps) = if same_op o op then servers_asked p else servers_asked_by ps

@@ -16,7 +16,7 @@ use Rattle.gate_gaps.specs.Names.{op_name}
 use Rattle.gate_gaps.specs.Pools.{NamedPools}
 use Rattle.gate_gaps.specs.PoolWords.{server_text}
 use Rattle.mcgate_check.specs.Verdict.{place_fields}
-use Rattle.mcgate_check.specs.Asking.{asked}
+use Rattle.mcgate_check.specs.Asking.{servers_asked}
 use Rattle.mcgate_check.specs.LimitLines.{limits_lines, plan_servers}
 
 -- key=K hash_part=P hash=N
@@ -39,7 +39,7 @@ op_line addresses pools op servers = op_front op ++ servers_text addresses pools
 
 -- a line for each operation, with the servers that the plain tree has for it
 abbrev pub op_lines : Addresses → NamedPools → Plan → List Op → List ℕ
-op_lines addresses pools plain ops = flat_map (λ op. op_line addresses pools op (asked op plain)) ops
+op_lines addresses pools plain ops = flat_map (λ op. op_line addresses pools op (servers_asked op plain)) ops
 
 -- the lines of a key with this plain tree: those of the operations, and of the limits that pools say for their servers
 abbrev pub plain_lines : Addresses → NamedPools → Data → Plan → List ℕ

@@ -10,7 +10,7 @@ use Rattle.route_json.specs.Limits.{limits_said, pools_said}
 use Rattle.gate_gaps.specs.Names.{server_address}
 use Rattle.gate_gaps.specs.Pools.{NamedPools}
 use Rattle.gate_gaps.specs.PoolWords.{server_text}
-use Rattle.mcgate_check.specs.Asking.{asked}
+use Rattle.mcgate_check.specs.Asking.{servers_asked}
 
 -- the value of a configuration's text; null where it is no JSON
 abbrev pub limits_value : Option Data → Data
@@ -52,4 +52,4 @@ limits_lines addresses pools value servers = flat_map (limits_line_of addresses 
 
 -- the servers that the plain tree has for these operations
 abbrev pub plan_servers : Plan → List Op → List ℕ
-plan_servers plain ops = flat_map (λ op. asked op plain) ops
+plan_servers plain ops = flat_map (λ op. servers_asked op plain) ops

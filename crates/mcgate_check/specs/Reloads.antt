@@ -15,12 +15,12 @@ abbrev pub unchecked_line : ℕ → List ℕ
 unchecked_line generation = codes "reload unchecked generation=" ++ decimal generation ++ codes "\n"
 
 -- reload refused generation=G
-abbrev pub kept_head : ℕ → List ℕ
-kept_head generation = codes "reload refused generation=" ++ decimal generation
+abbrev pub refused_head : ℕ → List ℕ
+refused_head generation = codes "reload refused generation=" ++ decimal generation
 
 -- the line of a gap under this generation's tree
 abbrev pub kept_gap : Addresses → ℕ → Gap → List ℕ
-kept_gap servers generation gap = kept_head generation ++ gap_fields servers gap
+kept_gap servers generation gap = refused_head generation ++ gap_fields servers gap
 
 -- the line of a configuration that was not loaded; running out of memory has none
 abbrev pub kept_line : Addresses → ReloadFault → List ℕ

@@ -2,7 +2,7 @@
 
 ghost use Rattle.std.specs.Prelude.{◌≡◌, OnOk};
 ghost use Rattle.std.specs.Io.KnownBytes.{Appends};
-ghost use Rattle.mcgate_check.specs.Reloads.{loaded_line, unchecked_line, kept_head, kept_gap, kept_line};
+ghost use Rattle.mcgate_check.specs.Reloads.{loaded_line, unchecked_line, refused_head, kept_gap, kept_line};
 
 use crate::verdict::write_gap;
 use gate_check::{Gap, ReloadFault};
@@ -27,7 +27,7 @@ pub fn write_unchecked<W: Write>(generation: u32, out: &mut W) -> io::Result<()>
 
 // Writes the head of a gap's line.
 fn write_head<W: Write>(generation: u32, out: &mut W) -> io::Result<()>
-    ensures { OnOk result (Appends (W.contents out.old) (W.contents out.new) (kept_head generation)) }
+    ensures { OnOk result (Appends (W.contents out.old) (W.contents out.new) (refused_head generation)) }
 {
     write!(out, "reload refused generation={generation}")
 }

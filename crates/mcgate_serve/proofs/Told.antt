@@ -10,7 +10,7 @@ use Rattle.watch_admin.specs.declared.families.Family.{Family}
 use Rattle.watch_admin.specs.declared.numbers.Numbers.{Numbers}
 use Rattle.watch_admin.specs.declared.numbers.ServerNumbers.{ServerNumbers}
 use Rattle.watch_admin.specs.Told.{Tells, IsAmong, one_labelled}
-use Rattle.mcgate_serve.specs.Told.{IsOfServer, AreOfServers, FamiliesTell, IsInPrometheus, IsInJson, HasTally, TellsTally, TellsInPrometheus, TellsInJson}
+use Rattle.mcgate_serve.specs.Told.{IsRowOfServer, AreOfServers, FamiliesTell, IsInPrometheus, IsInJson, HasTally, TellsTally, TellsInPrometheus, TellsInJson}
 
 -- families that tell of numbers which have what a core counts
 pub tells_tally : (core : ServedCore) (servers : Addresses) (numbers : Numbers) (families : List Family) → HasTally core servers numbers → FamiliesTell numbers families → TellsTally core servers families
@@ -63,5 +63,5 @@ each_more : {A : Type 0} (P : A → Type 0) (xs : List A) (x : A) → Each P xs 
 each_more P [] x each is = (is, tt)
 each_more P (y ∷ xs) x each is = (each.0, each_more P xs x each.1 is)
 
-pub server_more : (tally : CoreTally) (servers : Addresses) (old new : List ServerNumbers) (row : ServerNumbers) → new ≡ old ++ row ∷ [] → IsOfServer tally servers row → AreOfServers tally servers old → AreOfServers tally servers new
-server_more tally servers old new row is of are = subst (AreOfServers tally servers) (sym is) (each_more (IsOfServer tally servers) old row are of)
+pub server_more : (tally : CoreTally) (servers : Addresses) (old new : List ServerNumbers) (row : ServerNumbers) → new ≡ old ++ row ∷ [] → IsRowOfServer tally servers row → AreOfServers tally servers old → AreOfServers tally servers new
+server_more tally servers old new row is of are = subst (AreOfServers tally servers) (sym is) (each_more (IsRowOfServer tally servers) old row are of)

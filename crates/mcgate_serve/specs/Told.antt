@@ -49,12 +49,12 @@ pub record IsToldOf (tally : CoreTally) (server : ℕ) (text : List ℕ) (number
   pub failed : numbers.failed ≡ (of_server tally server).failed - numbers.unsent
 
 -- they are of one of these servers, under its text
-abbrev pub IsOfServer : CoreTally → Addresses → ServerNumbers → Type 0
-IsOfServer tally servers numbers = (server : ℕ) × (text : List ℕ) × (slice_get servers server ≡ Some text) × IsToldOf tally server text numbers
+abbrev pub IsRowOfServer : CoreTally → Addresses → ServerNumbers → Type 0
+IsRowOfServer tally servers numbers = (server : ℕ) × (text : List ℕ) × (slice_get servers server ≡ Some text) × IsToldOf tally server text numbers
 
 -- so is each of them
 abbrev pub AreOfServers : CoreTally → Addresses → List ServerNumbers → Type 0
-AreOfServers tally servers rows = Each (IsOfServer tally servers) rows
+AreOfServers tally servers rows = Each (IsRowOfServer tally servers) rows
 
 -- these numbers have what the core counts, also of servers
 pub record HasTally (core : ServedCore) (servers : Addresses) (numbers : Numbers) : Type 0 where

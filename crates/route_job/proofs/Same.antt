@@ -6,7 +6,7 @@ use Rattle.mc_types.specs.declared.call.Origin.{Origin}
 use Rattle.mc_types.specs.Rank.{IsWorst, NoneAbove}
 use Rattle.fresh_runs.specs.Calls.{Call}
 use Rattle.route_tree.specs.Plan.{Plan, Plans, End, More, AllSync}
-use Rattle.route_tree.specs.Word.{Given, rank, GivesOnly, Then, Word, WordOfFirst, IsEnd}
+use Rattle.route_tree.specs.Word.{Given, rank, GivesOnly, Then, PlanWord, WordOfFirst, IsEnd}
 use Rattle.route_job.specs.Parts.{SameAt, worse, WorstWith, AfterFirst}
 
 -- ---- one part after another
@@ -102,7 +102,7 @@ worst_one ask origin g b calls given = (
     alone (inl h) = sym h.0
     alone (inr h) = absurd h.1
 
-pub worst_more : (p : Plan) (ps : Plans) (ask : Ask) (origin : Origin) (v : Given) (b : ℕ) → SameAt b (WorstWith (More p ps) ask origin v) (Then (Word p ask origin) (λ g. WorstWith ps ask origin (worse v g)))
+pub worst_more : (p : Plan) (ps : Plans) (ask : Ask) (origin : Origin) (v : Given) (b : ℕ) → SameAt b (WorstWith (More p ps) ask origin v) (Then (PlanWord p ask origin) (λ g. WorstWith ps ask origin (worse v g)))
 worst_more p ps ask origin v b calls given = (
   (λ w.
       let a = w.1 in
@@ -112,7 +112,7 @@ worst_more p ps ask origin v b calls given = (
       (w.3 ∷ a.0, (w.0, w.1, w.2, w.3, w.4, a.0, refl, a.1), (worst_of_two v w.3 a.0 given).1 a.2)),
 )
 
-pub all_begin : (p : Plan) (ps : Plans) (ask : Ask) (origin : Origin) (b : ℕ) → SameAt b (Word (AllSync (More p ps)) ask origin) (Then (Word p ask origin) (WorstWith ps ask origin))
+pub all_begin : (p : Plan) (ps : Plans) (ask : Ask) (origin : Origin) (b : ℕ) → SameAt b (PlanWord (AllSync (More p ps)) ask origin) (Then (PlanWord p ask origin) (WorstWith ps ask origin))
 all_begin p ps ask origin b calls given = (
   (λ w.
       let a = w.1 in
@@ -135,7 +135,7 @@ choice_true t A B e h = subst (λ x. MatchBool x A B) (sym e) h
 pub choice_false : (t : Bool) (A B : Type 0) → t ≡ false → B → MatchBool t A B
 choice_false t A B e h = subst (λ x. MatchBool x A B) (sym e) h
 
-pub first_begin : (p : Plan) (ps : Plans) (limit : ℕ) (ask : Ask) (origin : Origin) (b : ℕ) → SameAt b (WordOfFirst (More p ps) limit ask origin) (Then (Word p ask origin) (AfterFirst ps limit ask origin))
+pub first_begin : (p : Plan) (ps : Plans) (limit : ℕ) (ask : Ask) (origin : Origin) (b : ℕ) → SameAt b (WordOfFirst (More p ps) limit ask origin) (Then (PlanWord p ask origin) (AfterFirst ps limit ask origin))
 first_begin p ps limit ask origin b calls given = (there, back ps)
   where
     done : (qs : Plans) (g : Given) (n : ℕ) → ((rank g < limit) ⊎ IsEnd qs) → AfterFirst qs limit ask origin g n [] g
@@ -147,15 +147,15 @@ first_begin p ps limit ask origin b calls given = (there, back ps)
     goes End g n more le w = absurd w
     goes (More q qs) g n more le w = choice_false (nat_lt (rank g) limit) (GivesOnly g n more given) (WordOfFirst (More q qs) limit ask origin n more given) (le-ltb (rank g) limit le) w
 
-    there : WordOfFirst (More p ps) limit ask origin b calls given → Then (Word p ask origin) (AfterFirst ps limit ask origin) b calls given
+    there : WordOfFirst (More p ps) limit ask origin b calls given → Then (PlanWord p ask origin) (AfterFirst ps limit ask origin) b calls given
     there (inl w) = (calls, [], sym (append_none calls [] refl), given, w.0, done ps given (b + length calls) w.1)
     there (inr w) = (w.0, w.1, w.2, w.3, w.4, goes ps w.3 (b + length w.0) w.1 w.5 w.6)
 
-    whole : (front more : List Call) (g : Given) → calls ≡ front ++ more → Word p ask origin b front g → (more ≡ []) × (given ≡ g) → Word p ask origin b calls given
+    whole : (front more : List Call) (g : Given) → calls ≡ front ++ more → PlanWord p ask origin b front g → (more ≡ []) × (given ≡ g) → PlanWord p ask origin b calls given
     whole front more g e w h =
-        subst (λ x. Word p ask origin b calls x) (sym h.1) (subst (λ l. Word p ask origin b l g) (sym (e ∙ append_none front more h.0)) w)
+        subst (λ x. PlanWord p ask origin b calls x) (sym h.1) (subst (λ l. PlanWord p ask origin b l g) (sym (e ∙ append_none front more h.0)) w)
 
-    back : (qs : Plans) → Then (Word p ask origin) (AfterFirst qs limit ask origin) b calls given → WordOfFirst (More p qs) limit ask origin b calls given
+    back : (qs : Plans) → Then (PlanWord p ask origin) (AfterFirst qs limit ask origin) b calls given → WordOfFirst (More p qs) limit ask origin b calls given
     back End w = inl (whole w.0 w.1 w.3 w.2 w.4 w.5, inr tt)
     back (More q qs) w =
         ⊎_elim

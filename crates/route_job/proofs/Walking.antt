@@ -6,7 +6,7 @@ use Rattle.mc_types.specs.declared.call.Origin.TheVariants.{Client}
 use Rattle.fresh_runs.specs.Calls.{Call}
 use Rattle.route_tree.specs.At.{plain_for}
 use Rattle.route_tree.specs.Route.{Route}
-use Rattle.route_tree.specs.Word.{Given, GivesOnly, Then, Word}
+use Rattle.route_tree.specs.Word.{Given, GivesOnly, Then, PlanWord}
 use Rattle.route_job.specs.Given.{given_when_done}
 use Rattle.route_job.specs.Parts.{SameAt}
 use Rattle.route_job.specs.Rest.{Under, PendingOf, AdvanceBy, Comings, AfterFrame, ask_in, origin_in, ask_under, origin_under, Sure, NeedsHit}
@@ -35,12 +35,12 @@ module _ (hash : ℕ) (text : List ℕ) where
       (subst (λ o. SameAt b (Under hash text fs a Client X) (Under hash text (fs ++ f ∷ []) a Client (PendingOf hash text pending (ask_in f (ask_under fs a)) o)) × Sure hash text (fs ++ f ∷ []) a Client b (PendingOf hash text pending (ask_in f (ask_under fs a)) o)) (sym (origin_put fs f Client))
       (here, needs))
 
-  pub went_in : (fs fs' : List Frame) (a A : Ask) (tree : Route) (fr : Option Frame) (pending : Pending) → A ≡ ask_under fs a → fs' ≡ put_down fs fr → ((origin : Origin) (b : ℕ) → SameAt b (Word (plain_for hash text tree) A origin) (AdvanceBy hash text fr pending A origin)) → ((origin : Origin) (b : ℕ) → IsSureBy hash text fr pending A origin b) → (b : ℕ) → FramesLead hash text b a fs (Enter tree) fs' pending
+  pub went_in : (fs fs' : List Frame) (a A : Ask) (tree : Route) (fr : Option Frame) (pending : Pending) → A ≡ ask_under fs a → fs' ≡ put_down fs fr → ((origin : Origin) (b : ℕ) → SameAt b (PlanWord (plain_for hash text tree) A origin) (AdvanceBy hash text fr pending A origin)) → ((origin : Origin) (b : ℕ) → IsSureBy hash text fr pending A origin b) → (b : ℕ) → FramesLead hash text b a fs (Enter tree) fs' pending
   went_in fs fs' a A tree fr pending ea ef same sure b s =
       let O = origin_under fs Client in
-      let same' = subst (λ x. SameAt b (Word (plain_for hash text tree) x O) (AdvanceBy hash text fr pending x O)) ea (same O b) in
+      let same' = subst (λ x. SameAt b (PlanWord (plain_for hash text tree) x O) (AdvanceBy hash text fr pending x O)) ea (same O b) in
       let sure' = subst (λ x. IsSureBy hash text fr pending x O b) ea (sure O b) in
-      subst (λ l. SameAt b (Comings hash text fs a Client (Enter tree)) (Comings hash text l a Client pending) × AreSure hash text b a l pending) (sym ef) (entered fs a (Word (plain_for hash text tree) (ask_under fs a) O) fr pending b same' sure' s)
+      subst (λ l. SameAt b (Comings hash text fs a Client (Enter tree)) (Comings hash text l a Client pending) × AreSure hash text b a l pending) (sym ef) (entered fs a (PlanWord (plain_for hash text tree) (ask_under fs a) O) fr pending b same' sure' s)
 
   pub went_back : (fs fs' : List Frame) (a A : Ask) (f : Frame) (done : Done) (fr : Option Frame) (pending : Pending) → A ≡ ask_under fs a → fs' ≡ put_down fs fr → ((origin : Origin) (b : ℕ) → NeedsHit f (given_when_done done) → SameAt b (AfterFrame hash text f A origin (given_when_done done)) (AdvanceBy hash text fr pending A origin)) → ((origin : Origin) (b : ℕ) → IsSureBy hash text fr pending A origin b) → (b : ℕ) → FramesLead hash text b a (fs ++ f ∷ []) (Back done) fs' pending
   went_back fs fs' a A f done fr pending ea ef same sure b s =

@@ -7,7 +7,7 @@ use Rattle.mc_types.specs.declared.call.Origin.TheVariants.{CopyOf}
 use Rattle.fresh_runs.specs.Calls.{Call}
 use Rattle.route_tree.specs.At.{plain_for, plain_for_all}
 use Rattle.route_tree.specs.Plan.{Server}
-use Rattle.route_tree.specs.Word.{Given, rank, GivesOnly, Then, Word, plain_get, refill, AfterCold, AfterWarm, AfterRefill}
+use Rattle.route_tree.specs.Word.{Given, rank, GivesOnly, Then, PlanWord, plain_get, refill, AfterCold, AfterWarm, AfterRefill}
 use Rattle.route_job.specs.Given.{given_when_done}
 use Rattle.route_job.specs.Parts.{AfterAll, AfterFirst, NamesHit}
 use Rattle.route_job.specs.declared.frame.Frame.{Frame}
@@ -70,16 +70,16 @@ module _ (hash : ℕ) (text : List ℕ) where
   AfterFrame (All rest worst) ask origin g = AfterAll (option_map given_when_done worst) (plain_for_all hash text rest) ask origin g
   AfterFrame (First rest limit) ask origin g = AfterFirst (plain_for_all hash text rest) limit ask origin g
   AfterFrame (Cold sides) ask origin g =
-      AfterCold ask (Word (plain_for hash text sides.cold) ask origin) (Word (plain_for hash text sides.warm) (plain_get ask) origin) (λ hit w. Word (plain_for hash text sides.cold) (refill ask hit sides.exptime) (CopyOf w)) g (rank g)
+      AfterCold ask (PlanWord (plain_for hash text sides.cold) ask origin) (PlanWord (plain_for hash text sides.warm) (plain_get ask) origin) (λ hit w. PlanWord (plain_for hash text sides.cold) (refill ask hit sides.exptime) (CopyOf w)) g (rank g)
   AfterFrame (Warm sides first get) ask origin g =
-      AfterWarm ask (Word (plain_for hash text sides.cold) ask origin) (Word (plain_for hash text sides.warm) (plain_get ask) origin) (λ hit w. Word (plain_for hash text sides.cold) (refill ask hit sides.exptime) (CopyOf w)) (given_when_done first) g (rank g)
+      AfterWarm ask (PlanWord (plain_for hash text sides.cold) ask origin) (PlanWord (plain_for hash text sides.warm) (plain_get ask) origin) (λ hit w. PlanWord (plain_for hash text sides.cold) (refill ask hit sides.exptime) (CopyOf w)) (given_when_done first) g (rank g)
   AfterFrame (Refill sides from_warm from add) ask origin g =
-      AfterRefill ask (Word (plain_for hash text sides.cold) ask origin) (Word (plain_for hash text sides.warm) (plain_get ask) origin) (λ hit w. Word (plain_for hash text sides.cold) (refill ask hit sides.exptime) (CopyOf w)) (given_when_done from_warm)
+      AfterRefill ask (PlanWord (plain_for hash text sides.cold) ask origin) (PlanWord (plain_for hash text sides.warm) (plain_get ask) origin) (λ hit w. PlanWord (plain_for hash text sides.cold) (refill ask hit sides.exptime) (CopyOf w)) (given_when_done from_warm)
 
   -- what is to be done next may bring this
   abbrev pub PendingOf : Pending → Ask → Origin → ℕ → List Call → Given → Type 0
-  PendingOf (Enter tree) ask origin = Word (plain_for hash text tree) ask origin
-  PendingOf (Calling server) ask origin = Word (Server server) ask origin
+  PendingOf (Enter tree) ask origin = PlanWord (plain_for hash text tree) ask origin
+  PendingOf (Calling server) ask origin = PlanWord (Server server) ask origin
   PendingOf (Back done) ask origin = GivesOnly (given_when_done done)
 
   -- what is to be done next, and then what the frame that is put down goes on with

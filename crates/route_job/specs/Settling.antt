@@ -7,7 +7,7 @@ use Rattle.mc_types.specs.declared.call.Origin.TheVariants.{Client}
 use Rattle.fresh_runs.specs.Calls.{Call}
 use Rattle.route_tree.specs.Word.{Given}
 use Rattle.route_tree.specs.At.{plain_for, plain_for_all}
-use Rattle.route_tree.specs.Plan.{count, count_of_all}
+use Rattle.route_tree.specs.Plan.{plan_count, plan_count_of_all}
 use Rattle.route_job.specs.Parts.{SameAt}
 use Rattle.route_job.specs.Rest.{PendingOf, ask_in, origin_in, ask_under, origin_under, Under, Comings, NeedsHit, SureOf, Sure}
 use Rattle.route_job.specs.declared.frame.Frame.{Frame}
@@ -73,14 +73,14 @@ module _ (hash : ℕ) (text : List ℕ) where
 
   -- more than the steps that are left
   abbrev pub frame_work : Frame → ℕ
-  frame_work (All rest worst) = 3 * count_of_all (plain_for_all hash text rest) + 1
-  frame_work (First rest limit) = 3 * count_of_all (plain_for_all hash text rest) + 1
-  frame_work (Cold sides) = 6 * count (plain_for hash text sides.cold) + 3 * count (plain_for hash text sides.warm) + 2
-  frame_work (Warm sides first get) = 6 * count (plain_for hash text sides.cold) + 2
-  frame_work (Refill sides from_warm from add) = 3 * count (plain_for hash text sides.cold) + 1
+  frame_work (All rest worst) = 3 * plan_count_of_all (plain_for_all hash text rest) + 1
+  frame_work (First rest limit) = 3 * plan_count_of_all (plain_for_all hash text rest) + 1
+  frame_work (Cold sides) = 6 * plan_count (plain_for hash text sides.cold) + 3 * plan_count (plain_for hash text sides.warm) + 2
+  frame_work (Warm sides first get) = 6 * plan_count (plain_for hash text sides.cold) + 2
+  frame_work (Refill sides from_warm from add) = 3 * plan_count (plain_for hash text sides.cold) + 1
 
   abbrev pub pending_work : Pending → ℕ
-  pending_work (Enter tree) = 3 * count (plain_for hash text tree)
+  pending_work (Enter tree) = 3 * plan_count (plain_for hash text tree)
   pending_work (Calling server) = 2
   pending_work (Back done) = 1
 

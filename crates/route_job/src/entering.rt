@@ -7,8 +7,8 @@ ghost use Rattle.mc_types.specs.declared.call.Origin.{Origin};
 ghost use Rattle.route_tree.specs.At.{plain_for, plain_for_all, plain_for_policies, tree_at};
 ghost use Rattle.route_tree.specs.Form.{policies_of};
 ghost use Rattle.route_tree.specs.Levels.{plan_of_level};
-ghost use Rattle.route_tree.specs.Plan.{AllSync, MissFailover, More, Server, WarmUp, count, count_of_all, count_of_policies};
-ghost use Rattle.route_tree.specs.Word.{Word, WordOfFirst, WordOfPolicy};
+ghost use Rattle.route_tree.specs.Plan.{AllSync, MissFailover, More, Server, WarmUp, plan_count, plan_count_of_all, plan_count_of_policies};
+ghost use Rattle.route_tree.specs.Word.{PlanWord, WordOfFirst, WordOfPolicy};
 ghost use Rattle.route_job.specs.Parts.{SameAt};
 ghost use Rattle.route_job.specs.Rest.{AdvanceOf};
 ghost use Rattle.route_job.specs.Settling.{IsSure, advance_work};
@@ -23,9 +23,9 @@ use std::alloc::AllocError;
 
 // All children in order.
 fn enter_all(first: Tree, rest: Children) -> Advance
-    ensures same { (hash : ℕ) (text : List ℕ) (ask : Ask) (origin : Origin) (b : ℕ) → SameAt b (Word (AllSync (More (plain_for hash text first) (plain_for_all hash text rest))) ask origin) (AdvanceOf hash text result ask origin) }
+    ensures same { (hash : ℕ) (text : List ℕ) (ask : Ask) (origin : Origin) (b : ℕ) → SameAt b (PlanWord (AllSync (More (plain_for hash text first) (plain_for_all hash text rest))) ask origin) (AdvanceOf hash text result ask origin) }
     ensures sure { (hash : ℕ) (text : List ℕ) (ask : Ask) (origin : Origin) (b : ℕ) → IsSure hash text result ask origin b }
-    ensures less { (hash : ℕ) (text : List ℕ) → advance_work hash text result + 1 ≤ 3 * count (AllSync (More (plain_for hash text first) (plain_for_all hash text rest))) }
+    ensures less { (hash : ℕ) (text : List ℕ) → advance_work hash text result + 1 ≤ 3 * plan_count (AllSync (More (plain_for hash text first) (plain_for_all hash text rest))) }
 {
     Advance {
         frame: Some(Frame::All { rest, worst: None }),
@@ -37,7 +37,7 @@ fn enter_all(first: Tree, rest: Children) -> Advance
 fn enter_first(first: Tree, rest: Children, limit: u8) -> Advance
     ensures same { (hash : ℕ) (text : List ℕ) (ask : Ask) (origin : Origin) (b : ℕ) → SameAt b (WordOfFirst (More (plain_for hash text first) (plain_for_all hash text rest)) limit ask origin) (AdvanceOf hash text result ask origin) }
     ensures sure { (hash : ℕ) (text : List ℕ) (ask : Ask) (origin : Origin) (b : ℕ) → IsSure hash text result ask origin b }
-    ensures less { (hash : ℕ) (text : List ℕ) → advance_work hash text result ≤ 3 * count_of_all (More (plain_for hash text first) (plain_for_all hash text rest)) + 1 }
+    ensures less { (hash : ℕ) (text : List ℕ) → advance_work hash text result ≤ 3 * plan_count_of_all (More (plain_for hash text first) (plain_for_all hash text rest)) + 1 }
 {
     Advance {
         frame: Some(Frame::First { rest, limit }),
@@ -47,9 +47,9 @@ fn enter_first(first: Tree, rest: Children, limit: u8) -> Advance
 
 // A get goes on to the first hit; another operation asks the first child alone.
 fn enter_miss(ask: &Ask, first: Tree, rest: Children) -> Advance
-    ensures same { (hash : ℕ) (text : List ℕ) (origin : Origin) (b : ℕ) → SameAt b (Word (MissFailover (More (plain_for hash text first) (plain_for_all hash text rest))) ask.now origin) (AdvanceOf hash text result ask.now origin) }
+    ensures same { (hash : ℕ) (text : List ℕ) (origin : Origin) (b : ℕ) → SameAt b (PlanWord (MissFailover (More (plain_for hash text first) (plain_for_all hash text rest))) ask.now origin) (AdvanceOf hash text result ask.now origin) }
     ensures sure { (hash : ℕ) (text : List ℕ) (origin : Origin) (b : ℕ) → IsSure hash text result ask.now origin b }
-    ensures less { (hash : ℕ) (text : List ℕ) → advance_work hash text result ≤ 3 * count_of_all (More (plain_for hash text first) (plain_for_all hash text rest)) + 1 }
+    ensures less { (hash : ℕ) (text : List ℕ) → advance_work hash text result ≤ 3 * plan_count_of_all (More (plain_for hash text first) (plain_for_all hash text rest)) + 1 }
 {
     if is_get(ask.op) {
         enter_first(first, rest, 1)
@@ -60,9 +60,9 @@ fn enter_miss(ask: &Ask, first: Tree, rest: Children) -> Advance
 
 // This tree and nothing more.
 fn enter_alone(tree: Tree) -> Advance
-    ensures same { (hash : ℕ) (text : List ℕ) (ask : Ask) (origin : Origin) (b : ℕ) → SameAt b (Word (plain_for hash text tree) ask origin) (AdvanceOf hash text result ask origin) }
+    ensures same { (hash : ℕ) (text : List ℕ) (ask : Ask) (origin : Origin) (b : ℕ) → SameAt b (PlanWord (plain_for hash text tree) ask origin) (AdvanceOf hash text result ask origin) }
     ensures sure { (hash : ℕ) (text : List ℕ) (ask : Ask) (origin : Origin) (b : ℕ) → IsSure hash text result ask origin b }
-    ensures less { (hash : ℕ) (text : List ℕ) → advance_work hash text result ≤ 3 * count (plain_for hash text tree) }
+    ensures less { (hash : ℕ) (text : List ℕ) → advance_work hash text result ≤ 3 * plan_count (plain_for hash text tree) }
 {
     Advance {
         frame: None,
@@ -72,9 +72,9 @@ fn enter_alone(tree: Tree) -> Advance
 
 // A get may ask the warm side too.
 fn enter_warm_up(ask: &Ask, sides: Sides) -> Result<Advance, AllocError>
-    ensures same { IfOk result (λ advance. (hash : ℕ) (text : List ℕ) (origin : Origin) (b : ℕ) → SameAt b (Word (WarmUp (plain_for hash text sides.cold) (plain_for hash text sides.warm) sides.exptime) ask.now origin) (AdvanceOf hash text advance ask.now origin)) }
+    ensures same { IfOk result (λ advance. (hash : ℕ) (text : List ℕ) (origin : Origin) (b : ℕ) → SameAt b (PlanWord (WarmUp (plain_for hash text sides.cold) (plain_for hash text sides.warm) sides.exptime) ask.now origin) (AdvanceOf hash text advance ask.now origin)) }
     ensures sure { IfOk result (λ advance. (hash : ℕ) (text : List ℕ) (origin : Origin) (b : ℕ) → IsSure hash text advance ask.now origin b) }
-    ensures less { IfOk result (λ advance. (hash : ℕ) (text : List ℕ) → advance_work hash text advance + 1 ≤ 3 * count (WarmUp (plain_for hash text sides.cold) (plain_for hash text sides.warm) sides.exptime)) }
+    ensures less { IfOk result (λ advance. (hash : ℕ) (text : List ℕ) → advance_work hash text advance + 1 ≤ 3 * plan_count (WarmUp (plain_for hash text sides.cold) (plain_for hash text sides.warm) sides.exptime)) }
 {
     let cold = sides.cold.copy()?;
     let pending = Pending::Enter(cold);
@@ -108,7 +108,7 @@ fn sides_of(cold: &Tree, warm: &Tree, exptime: u32) -> Result<Sides, AllocError>
 fn enter_chosen(ask: &Ask, policies: &[(Op, Tree)], default: &Tree) -> Result<Advance, AllocError>
     ensures same { IfOk result (λ advance. (hash : ℕ) (text : List ℕ) (origin : Origin) (b : ℕ) → SameAt b (WordOfPolicy (plain_for_policies hash text (policies_of policies.now default.now)) ask.now origin) (AdvanceOf hash text advance ask.now origin)) }
     ensures sure { IfOk result (λ advance. (hash : ℕ) (text : List ℕ) (origin : Origin) (b : ℕ) → IsSure hash text advance ask.now origin b) }
-    ensures less { IfOk result (λ advance. (hash : ℕ) (text : List ℕ) → advance_work hash text advance ≤ 3 * count_of_policies (plain_for_policies hash text (policies_of policies.now default.now))) }
+    ensures less { IfOk result (λ advance. (hash : ℕ) (text : List ℕ) → advance_work hash text advance ≤ 3 * plan_count_of_policies (plain_for_policies hash text (policies_of policies.now default.now))) }
 {
     let tree = policy_of(policies, default, ask.op).copy()?;
     Ok(enter_alone(tree))
@@ -116,9 +116,9 @@ fn enter_chosen(ask: &Ask, policies: &[(Op, Tree)], default: &Tree) -> Result<Ad
 
 // What a level begins with.
 fn enter_level(ask: &Ask, level: Level) -> Result<Advance, AllocError>
-    ensures same { IfOk result (λ advance. (hash : ℕ) (text : List ℕ) (origin : Origin) (b : ℕ) → SameAt b (Word (plan_of_level hash text level.entry) ask.now origin) (AdvanceOf hash text advance ask.now origin)) }
+    ensures same { IfOk result (λ advance. (hash : ℕ) (text : List ℕ) (origin : Origin) (b : ℕ) → SameAt b (PlanWord (plan_of_level hash text level.entry) ask.now origin) (AdvanceOf hash text advance ask.now origin)) }
     ensures sure { IfOk result (λ advance. (hash : ℕ) (text : List ℕ) (origin : Origin) (b : ℕ) → IsSure hash text advance ask.now origin b) }
-    ensures less { IfOk result (λ advance. (hash : ℕ) (text : List ℕ) → advance_work hash text advance + 1 ≤ 3 * count (plan_of_level hash text level.entry)) }
+    ensures less { IfOk result (λ advance. (hash : ℕ) (text : List ℕ) → advance_work hash text advance + 1 ≤ 3 * plan_count (plan_of_level hash text level.entry)) }
 {
     match level {
         Level::Server(server) => Ok(Advance {
@@ -148,9 +148,9 @@ fn enter_level(ask: &Ask, level: Level) -> Result<Advance, AllocError>
 /// What the tree begins with, as the keys of this hash and text see it. It takes no memory, and is refused only where a
 /// count of sharers is full.
 pub fn enter(hash: u32, text: &[u8], ask: &Ask, tree: &Tree) -> Result<Advance, AllocError>
-    ensures same { IfOk result (λ advance. (origin : Origin) (b : ℕ) → SameAt b (Word (plain_for hash text.now tree.now) ask.now origin) (AdvanceOf hash text.now advance ask.now origin)) }
+    ensures same { IfOk result (λ advance. (origin : Origin) (b : ℕ) → SameAt b (PlanWord (plain_for hash text.now tree.now) ask.now origin) (AdvanceOf hash text.now advance ask.now origin)) }
     ensures sure { IfOk result (λ advance. (origin : Origin) (b : ℕ) → IsSure hash text.now advance ask.now origin b) }
-    ensures less { IfOk result (λ advance. advance_work hash text.now advance + 1 ≤ 3 * count (plain_for hash text.now tree.now)) }
+    ensures less { IfOk result (λ advance. advance_work hash text.now advance + 1 ≤ 3 * plan_count (plain_for hash text.now tree.now)) }
 {
     let level = tree.level(hash, text)?;
     enter_level(ask, level)

@@ -5,7 +5,7 @@ ghost use Rattle.mc_types.specs.declared.call.Origin.TheVariants.{Client};
 ghost use Rattle.fresh_runs.specs.Calls.{Call as CallMade};
 ghost use Rattle.fresh_runs.specs.Single.{FitsOutcome};
 ghost use Rattle.route_tree.specs.At.{tree_at};
-ghost use Rattle.route_tree.specs.Word.{Given, Word};
+ghost use Rattle.route_tree.specs.Word.{Given, PlanWord};
 ghost use Rattle.route_job.specs.Given.{given_when_done};
 ghost use Rattle.route_job.specs.Settling.{IsKept, kept_prop};
 
@@ -58,7 +58,7 @@ impl Job {
     /// The command on this tree for this ask: what may come of it are the words of the key's plain tree. The only error:
     /// memory was refused.
     pub fn new(alloc: Global, tree: &Tree, ask: SharedAsk) -> Result<Job, AllocError>
-        ensures words { IfOk result (λ job. (calls : List CallMade) (given : Given) → Comes job calls given ↔ Word (tree_at tree.now ask.key) ask Client 0 calls given) }
+        ensures words { IfOk result (λ job. (calls : List CallMade) (given : Given) → Comes job calls given ↔ PlanWord (tree_at tree.now ask.key) ask Client 0 calls given) }
         ensures ask { IfOk result (λ job. job.ask ≡ ask) }
     {
         let _form = tree.form();
@@ -89,7 +89,7 @@ impl Job {
     /// changes. What this job held is let go where it stands. It takes no memory, and is refused only where the count of the ask's sharers
     /// is full.
     pub fn begin_at_once(&mut self, tree: &Tree, ask: &SharedAsk) -> Result<bool, AllocError>
-        ensures words { IfOk result (λ begun. MatchBool begun ((calls : List CallMade) (given : Given) → Comes self.new calls given ↔ Word (tree_at tree.now ask.now.key) ask.now Client 0 calls given) (self.new ≡ self.old)) }
+        ensures words { IfOk result (λ begun. MatchBool begun ((calls : List CallMade) (given : Given) → Comes self.new calls given ↔ PlanWord (tree_at tree.now ask.now.key) ask.now Client 0 calls given) (self.new ≡ self.old)) }
         ensures ask { IfOk result (λ begun. begun ≡ true → self.new.ask ≡ ask.now) }
     {
         let Some(server) = server_at_once(ask.key(), tree) else {

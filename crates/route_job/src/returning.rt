@@ -5,8 +5,8 @@ ghost use Rattle.mc_types.specs.declared.ask.Ask.{Ask};
 ghost use Rattle.mc_types.specs.declared.call.Origin.{Origin};
 ghost use Rattle.mc_types.specs.declared.call.Origin.TheVariants.{CopyOf};
 ghost use Rattle.route_tree.specs.At.{plain_for, plain_for_all};
-ghost use Rattle.route_tree.specs.Plan.{count, count_of_all};
-ghost use Rattle.route_tree.specs.Word.{Word, plain_get, refill, rank, AfterWarm, AfterRefill, Refilled};
+ghost use Rattle.route_tree.specs.Plan.{plan_count, plan_count_of_all};
+ghost use Rattle.route_tree.specs.Word.{PlanWord, plain_get, refill, rank, AfterWarm, AfterRefill, Refilled};
 ghost use Rattle.route_job.specs.Given.{given_when_done};
 ghost use Rattle.route_job.specs.Parts.{SameAt, WorstWith, AfterAll, AfterFirst, NamesHit};
 ghost use Rattle.route_job.specs.Rest.{AdvanceOf, AfterFrame, NeedsHit};
@@ -26,7 +26,7 @@ use std::alloc::{AllocError, Global};
 fn back_all(rest: Children, worst: Option<Done>, done: Done) -> Result<Advance, AllocError>
     ensures same { IfOk result (λ advance. (hash : ℕ) (text : List ℕ) (ask : Ask) (origin : Origin) (b : ℕ) → SameAt b (AfterAll (option_map given_when_done worst) (plain_for_all hash text rest) ask origin (given_when_done done)) (AdvanceOf hash text advance ask origin)) }
     ensures sure { IfOk result (λ advance. (hash : ℕ) (text : List ℕ) (ask : Ask) (origin : Origin) (b : ℕ) → IsSure hash text advance ask origin b) }
-    ensures less { IfOk result (λ advance. (hash : ℕ) (text : List ℕ) → advance_work hash text advance ≤ 3 * count_of_all (plain_for_all hash text rest) + 1) }
+    ensures less { IfOk result (λ advance. (hash : ℕ) (text : List ℕ) → advance_work hash text advance ≤ 3 * plan_count_of_all (plain_for_all hash text rest) + 1) }
 {
     let worst = match worst {
         None => done,
@@ -39,7 +39,7 @@ fn back_all(rest: Children, worst: Option<Done>, done: Done) -> Result<Advance, 
 fn next_of_all(rest: Children, worst: Done) -> Result<Advance, AllocError>
     ensures same { IfOk result (λ advance. (hash : ℕ) (text : List ℕ) (ask : Ask) (origin : Origin) (b : ℕ) → SameAt b (WorstWith (plain_for_all hash text rest) ask origin (given_when_done worst)) (AdvanceOf hash text advance ask origin)) }
     ensures sure { IfOk result (λ advance. (hash : ℕ) (text : List ℕ) (ask : Ask) (origin : Origin) (b : ℕ) → IsSure hash text advance ask origin b) }
-    ensures less { IfOk result (λ advance. (hash : ℕ) (text : List ℕ) → advance_work hash text advance ≤ 3 * count_of_all (plain_for_all hash text rest) + 1) }
+    ensures less { IfOk result (λ advance. (hash : ℕ) (text : List ℕ) → advance_work hash text advance ≤ 3 * plan_count_of_all (plain_for_all hash text rest) + 1) }
 {
     let parts = rest.parted()?;
     match parts {
@@ -67,7 +67,7 @@ fn drop_ask(_ask: FormedAsk) {}
 fn back_first(rest: Children, limit: u8, done: Done) -> Result<Advance, AllocError>
     ensures same { IfOk result (λ advance. (hash : ℕ) (text : List ℕ) (ask : Ask) (origin : Origin) (b : ℕ) → SameAt b (AfterFirst (plain_for_all hash text rest) limit ask origin (given_when_done done)) (AdvanceOf hash text advance ask origin)) }
     ensures sure { IfOk result (λ advance. (hash : ℕ) (text : List ℕ) (ask : Ask) (origin : Origin) (b : ℕ) → IsSure hash text advance ask origin b) }
-    ensures less { IfOk result (λ advance. (hash : ℕ) (text : List ℕ) → advance_work hash text advance ≤ 3 * count_of_all (plain_for_all hash text rest) + 1) }
+    ensures less { IfOk result (λ advance. (hash : ℕ) (text : List ℕ) → advance_work hash text advance ≤ 3 * plan_count_of_all (plain_for_all hash text rest) + 1) }
 {
     if done.reply.rank() < limit {
         return Ok(Advance {
@@ -120,9 +120,9 @@ fn back_warm(
     first: Done,
     from_warm: Done,
 ) -> Result<Advance, AllocError>
-    ensures same { IfOk result (λ advance. (hash : ℕ) (text : List ℕ) (origin : Origin) (b : ℕ) → NamesHit (given_when_done from_warm) → SameAt b (AfterWarm ask.now (Word (plain_for hash text sides.cold) ask.now origin) (Word (plain_for hash text sides.warm) (plain_get ask.now) origin) (λ hit w. Word (plain_for hash text sides.cold) (refill ask.now hit sides.exptime) (CopyOf w)) (given_when_done first) (given_when_done from_warm) (rank (given_when_done from_warm))) (AdvanceOf hash text advance ask.now origin)) }
+    ensures same { IfOk result (λ advance. (hash : ℕ) (text : List ℕ) (origin : Origin) (b : ℕ) → NamesHit (given_when_done from_warm) → SameAt b (AfterWarm ask.now (PlanWord (plain_for hash text sides.cold) ask.now origin) (PlanWord (plain_for hash text sides.warm) (plain_get ask.now) origin) (λ hit w. PlanWord (plain_for hash text sides.cold) (refill ask.now hit sides.exptime) (CopyOf w)) (given_when_done first) (given_when_done from_warm) (rank (given_when_done from_warm))) (AdvanceOf hash text advance ask.now origin)) }
     ensures sure { IfOk result (λ advance. (hash : ℕ) (text : List ℕ) (origin : Origin) (b : ℕ) → IsSure hash text advance ask.now origin b) }
-    ensures less { IfOk result (λ advance. (hash : ℕ) (text : List ℕ) → advance_work hash text advance ≤ 6 * count (plain_for hash text sides.cold) + 2) }
+    ensures less { IfOk result (λ advance. (hash : ℕ) (text : List ℕ) → advance_work hash text advance ≤ 6 * plan_count (plain_for hash text sides.cold) + 2) }
 {
     if from_warm.reply.rank() != 0 {
         let_go(from_warm);
@@ -154,9 +154,9 @@ fn refill_frame(
     from_warm: Done,
     from: u64,
 ) -> Result<Advance, AllocError>
-    ensures same { IfOk result (λ advance. (hash : ℕ) (text : List ℕ) (origin : Origin) (b : ℕ) → SameAt b (Refilled ask.now (Word (plain_for hash text sides.cold) ask.now origin) (Word (plain_for hash text sides.warm) (plain_get ask.now) origin) (λ hit w. Word (plain_for hash text sides.cold) (refill ask.now hit sides.exptime) (CopyOf w)) (given_when_done from_warm) (Some from)) (AdvanceOf hash text advance ask.now origin)) }
+    ensures same { IfOk result (λ advance. (hash : ℕ) (text : List ℕ) (origin : Origin) (b : ℕ) → SameAt b (Refilled ask.now (PlanWord (plain_for hash text sides.cold) ask.now origin) (PlanWord (plain_for hash text sides.warm) (plain_get ask.now) origin) (λ hit w. PlanWord (plain_for hash text sides.cold) (refill ask.now hit sides.exptime) (CopyOf w)) (given_when_done from_warm) (Some from)) (AdvanceOf hash text advance ask.now origin)) }
     ensures sure { IfOk result (λ advance. (hash : ℕ) (text : List ℕ) (origin : Origin) (b : ℕ) → IsSure hash text advance ask.now origin b) }
-    ensures less { IfOk result (λ advance. (hash : ℕ) (text : List ℕ) → advance_work hash text advance ≤ 6 * count (plain_for hash text sides.cold) + 1) }
+    ensures less { IfOk result (λ advance. (hash : ℕ) (text : List ℕ) → advance_work hash text advance ≤ 6 * plan_count (plain_for hash text sides.cold) + 1) }
 {
     let add = refill_of(alloc, ask, &from_warm, sides.exptime)?;
     let cold = sides.cold.copy()?;
@@ -174,9 +174,9 @@ fn refill_frame(
 
 // A classic get is answered from the warm side, another asks the cold side again.
 fn back_refill(ask: &Ask, sides: Sides, from_warm: Done) -> Advance
-    ensures same { (hash : ℕ) (text : List ℕ) (origin : Origin) (b : ℕ) → SameAt b (AfterRefill ask.now (Word (plain_for hash text sides.cold) ask.now origin) (Word (plain_for hash text sides.warm) (plain_get ask.now) origin) (λ hit w. Word (plain_for hash text sides.cold) (refill ask.now hit sides.exptime) (CopyOf w)) (given_when_done from_warm)) (AdvanceOf hash text result ask.now origin) }
+    ensures same { (hash : ℕ) (text : List ℕ) (origin : Origin) (b : ℕ) → SameAt b (AfterRefill ask.now (PlanWord (plain_for hash text sides.cold) ask.now origin) (PlanWord (plain_for hash text sides.warm) (plain_get ask.now) origin) (λ hit w. PlanWord (plain_for hash text sides.cold) (refill ask.now hit sides.exptime) (CopyOf w)) (given_when_done from_warm)) (AdvanceOf hash text result ask.now origin) }
     ensures sure { (hash : ℕ) (text : List ℕ) (origin : Origin) (b : ℕ) → IsSure hash text result ask.now origin b }
-    ensures less { (hash : ℕ) (text : List ℕ) → advance_work hash text result ≤ 3 * count (plain_for hash text sides.cold) + 1 }
+    ensures less { (hash : ℕ) (text : List ℕ) → advance_work hash text result ≤ 3 * plan_count (plain_for hash text sides.cold) + 1 }
 {
     if is_plain_get(ask) {
         Advance {

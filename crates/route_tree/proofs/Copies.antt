@@ -8,7 +8,7 @@ use Rattle.mc_types.specs.declared.call.Origin.TheVariants.{Client, CopyOf}
 use Rattle.fresh_runs.specs.Calls.{Call}
 use Rattle.route_tree.specs.Operation.{same_op}
 use Rattle.route_tree.specs.Plan.{Plan, Plans, PlanPolicies, Server, Null, Failing, AllSync, Failover, MissFailover, WarmUp, ByOperation, End, More, Otherwise, Policy}
-use Rattle.route_tree.specs.Word.{Given, IfGet, Word, WordOfAll, WordOfFirst, WordOfHead, WordOfPolicy}
+use Rattle.route_tree.specs.Word.{Given, IfGet, PlanWord, WordOfAll, WordOfFirst, WordOfHead, WordOfPolicy}
 use Rattle.route_tree.specs.Copies.{is_get, may_copy, may_copy_in, may_copy_by, AreOf, OthersDontCopy, TreesBarDeletes}
 
 or_left : (a b : Bool) → (a || b) ≡ false → a ≡ false
@@ -61,7 +61,7 @@ mutual
   own (MissFailover ps) ask origin b calls given e w =
       either_get ask.op (WordOfFirst ps 1 ask origin b calls given) (WordOfHead ps ask origin b calls given) (AreOf origin calls) (λ h. own_first ps 1 ask origin b calls given e h) (λ h. own_head ps ask origin b calls given e h) w
   own (WarmUp cold warm exptime) ask origin b calls given e w =
-      own cold ask origin b calls given (or_right (is_get ask.op) (may_copy ask.op cold) e) (not_get ask.op _ (Word cold ask origin b calls given) (or_left (is_get ask.op) (may_copy ask.op cold) e) w)
+      own cold ask origin b calls given (or_right (is_get ask.op) (may_copy ask.op cold) e) (not_get ask.op _ (PlanWord cold ask origin b calls given) (or_left (is_get ask.op) (may_copy ask.op cold) e) w)
   own (ByOperation policies) ask origin b calls given e w = own_policy policies ask origin b calls given e w
 
   own_all : (ps : Plans) (ask : Ask) (origin : Origin) (b : ℕ) (calls : List Call) (all : List Given) → may_copy_in ask.op ps ≡ false → WordOfAll ps ask origin b calls all → AreOf origin calls
@@ -82,7 +82,7 @@ mutual
   own_policy : (policies : PlanPolicies) (ask : Ask) (origin : Origin) (b : ℕ) (calls : List Call) (given : Given) → may_copy_by ask.op policies ≡ false → WordOfPolicy policies ask origin b calls given → AreOf origin calls
   own_policy (Otherwise p) ask origin b calls given e w = own p ask origin b calls given e w
   own_policy (Policy o p rest) ask origin b calls given e w =
-      (elim (same_op o ask.op) as (λ t. cond t (may_copy ask.op p) (may_copy_by ask.op rest) ≡ false → MatchBool t (Word p ask origin b calls given) (WordOfPolicy rest ask origin b calls given) → AreOf origin calls) [
+      (elim (same_op o ask.op) as (λ t. cond t (may_copy ask.op p) (may_copy_by ask.op rest) ≡ false → MatchBool t (PlanWord p ask origin b calls given) (WordOfPolicy rest ask origin b calls given) → AreOf origin calls) [
         | true ↦ λ f h. own p ask origin b calls given f h
         | false ↦ λ f h. own_policy rest ask origin b calls given f h
       ]) e w

@@ -16,7 +16,7 @@ use Rattle.route_tree.specs.Each.{Each}
 use Rattle.route_tree.specs.Operation.{same_op}
 use Rattle.route_tree.specs.Plan.{Plan, Plans, PlanPolicies, Server, Null, Failing, AllSync, Failover, MissFailover, WarmUp, ByOperation, End, More, Otherwise, Policy}
 use Rattle.mc_types.specs.declared.ask.Op.TheVariants.{Get}
-use Rattle.route_tree.specs.Word.{Given, rank, given_by, null_reply, failing_reply, plain_get, refill, is_plain_get, Word, WordOfAll, WordOfFirst, WordOfPolicy, AfterRefill, Refilled, AfterWarm, AfterCold, WarmUpWord}
+use Rattle.route_tree.specs.Word.{Given, rank, given_by, null_reply, failing_reply, plain_get, refill, is_plain_get, PlanWord, WordOfAll, WordOfFirst, WordOfPolicy, AfterRefill, Refilled, AfterWarm, AfterCold, WarmUpWord}
 use Rattle.route_tree.proofs.Parts.{worst_is, match_bool, Replies}
 
 -- the reply of a warm-up is one of its sides'
@@ -42,7 +42,7 @@ module _ (P : Given → Type 0) (ask : Ask) (cold : ℕ → List Call → Given 
 -- what holds of each answer of a server and of the two fixed replies holds of each reply
 module _ (P : Given → Type 0) (ask : Ask) (answers : (b : ℕ) (outcome : Outcome) → FitsOutcome (plain_get ask) outcome → P (given_by b outcome)) (null : P (null_reply (plain_get ask))) (failing : P failing_reply) where
   mutual
-    pub get_has : (p : Plan) (origin : Origin) → Replies P (Word p (plain_get ask) origin)
+    pub get_has : (p : Plan) (origin : Origin) → Replies P (PlanWord p (plain_get ask) origin)
     get_has (Server t) origin b calls given w = subst P (sym w.3) (answers b w.0 w.1)
     get_has Null origin b calls given w = subst P (sym w.1) null
     get_has Failing origin b calls given w = subst P (sym w.1) failing
@@ -50,7 +50,7 @@ module _ (P : Given → Type 0) (ask : Ask) (answers : (b : ℕ) (outcome : Outc
     get_has (Failover ps) origin b calls given w = first_has ps 4 origin b calls given w
     get_has (MissFailover ps) origin b calls given w = first_has ps 1 origin b calls given w
     get_has (WarmUp cold warm e) origin b calls given w =
-        warm_up_has P (plain_get ask) (Word cold (plain_get ask) origin) (Word warm (plain_get ask) origin) (λ hit i. Word cold (refill (plain_get ask) hit e) (CopyOf i)) (get_has cold origin) (get_has warm origin) b calls given w
+        warm_up_has P (plain_get ask) (PlanWord cold (plain_get ask) origin) (PlanWord warm (plain_get ask) origin) (λ hit i. PlanWord cold (refill (plain_get ask) hit e) (CopyOf i)) (get_has cold origin) (get_has warm origin) b calls given w
     get_has (ByOperation policies) origin b calls given w = policy_has policies origin b calls given w
 
     all_have : (ps : Plans) (origin : Origin) → Replies (Each P) (WordOfAll ps (plain_get ask) origin)
@@ -90,5 +90,5 @@ pub names_hit : (ask : Ask) (b : ℕ) (outcome : Outcome) → FitsOutcome (plain
 names_hit ask b (Answered answer) fit r = subst (λ t. IsSome (cond t (Some b) None)) (sym (hit_shows answer fit.listed r)) refl
 names_hit ask b Failed fit r = absurd (cc)
 
-pub get_names_hit : (p : Plan) (ask : Ask) (origin : Origin) → Replies NamesHit (Word p (plain_get ask) origin)
+pub get_names_hit : (p : Plan) (ask : Ask) (origin : Origin) → Replies NamesHit (PlanWord p (plain_get ask) origin)
 get_names_hit p ask origin = get_has NamesHit ask (names_hit ask) (λ r. absurd (cc)) (λ r. absurd (cc)) p origin

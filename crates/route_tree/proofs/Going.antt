@@ -10,8 +10,8 @@ use Rattle.mc_types.specs.Rank.{IsWorst, NoneAbove}
 use Rattle.fresh_runs.specs.Calls.{Call}
 use Rattle.fresh_runs.specs.Single.{FitsOutcome}
 use Rattle.route_tree.specs.Operation.{same_op}
-use Rattle.route_tree.specs.Plan.{Plan, Plans, PlanPolicies, Server, Null, Failing, AllSync, Failover, MissFailover, WarmUp, ByOperation, End, More, Otherwise, Policy, IsNotEmpty, IsGood, AreGood, ArePoliciesGood}
-use Rattle.route_tree.specs.Word.{Given, rank, given_by, null_reply, failing_reply, plain_get, refill, is_plain_get, Word, WordOfAll, WordOfFirst, WordOfHead, WordOfPolicy, Then, GivesOnly, AfterRefill, Refilled, AfterWarm, AfterCold, WarmUpWord}
+use Rattle.route_tree.specs.Plan.{Plan, Plans, PlanPolicies, Server, Null, Failing, AllSync, Failover, MissFailover, WarmUp, ByOperation, End, More, Otherwise, Policy, IsNotEmpty, IsGoodPlan, AreGoodPlans, AreGoodPlanPolicies}
+use Rattle.route_tree.specs.Word.{Given, rank, given_by, null_reply, failing_reply, plain_get, refill, is_plain_get, PlanWord, WordOfAll, WordOfFirst, WordOfHead, WordOfPolicy, Then, GivesOnly, AfterRefill, Refilled, AfterWarm, AfterCold, WarmUpWord}
 use Rattle.route_tree.specs.WordLaws.{ended, EachAskHasAWord, EachOutcomeGoesOn}
 use Rattle.route_tree.proofs.Parts.{Replies, HasSome, Rest, GoesOn, split, goes_after, gives_on, gives_some, then_some, then_on, if_on, if_some, match_on, match_some}
 use Rattle.route_tree.proofs.Gets.{NamesHit, get_names_hit}
@@ -87,7 +87,7 @@ module _ (ask : Ask) (cold : ℕ → List Call → Given → Type 0) (warm : ℕ
 -- ---- children in order up to a reply of a lower rank
 
 -- what the first child did can be gone on with
-pub first_rest : (p : Plan) (ps : Plans) (limit : ℕ) (ask : Ask) (origin : Origin) → (IsNotEmpty ps → HasSome (WordOfFirst ps limit ask origin)) → (b : ℕ) (calls : List Call) → Rest (Word p ask origin) b calls → Rest (WordOfFirst (More p ps) limit ask origin) b calls
+pub first_rest : (p : Plan) (ps : Plans) (limit : ℕ) (ask : Ask) (origin : Origin) → (IsNotEmpty ps → HasSome (WordOfFirst ps limit ask origin)) → (b : ℕ) (calls : List Call) → Rest (PlanWord p ask origin) b calls → Rest (WordOfFirst (More p ps) limit ask origin) b calls
 first_rest p End limit ask origin some b calls r = (r.0, r.1, inl (r.2, inr tt))
 first_rest p (More q qs) limit ask origin some b calls r =
     ⊎_elim
@@ -100,7 +100,7 @@ first_rest p (More q qs) limit ask origin some b calls r =
 -- ---- every ask has a word
 
 mutual
-  pub has_word : (p : Plan) → IsGood p → (ask : Ask) (origin : Origin) → HasSome (Word p ask origin)
+  pub has_word : (p : Plan) → IsGoodPlan p → (ask : Ask) (origin : Origin) → HasSome (PlanWord p ask origin)
   has_word (Server s) good ask origin b = (record { server = s; ask = ask; origin = origin; outcome = Failed } ∷ [], given_by b Failed, (Failed, tt, refl, refl))
   has_word Null good ask origin b = gives_some (null_reply ask) b
   has_word Failing good ask origin b = gives_some failing_reply b
@@ -112,40 +112,40 @@ mutual
   has_word (MissFailover ps) good ask origin b =
       if_some ask.op (WordOfFirst ps 1 ask origin) (WordOfHead ps ask origin) (first_some ps 1 good.0 good.1 ask origin) (head_some ps good.0 good.1 ask origin) b
   has_word (WarmUp cold warm e) good ask origin b =
-      if_some ask.op (WarmUpWord ask (Word cold ask origin) (Word warm (plain_get ask) origin) (λ hit i. Word cold (refill ask hit e) (CopyOf i))) (Word cold ask origin)
-      (warm_up_some ask (Word cold ask origin) (Word warm (plain_get ask) origin) (λ hit i. Word cold (refill ask hit e) (CopyOf i)) (has_word cold good.0 ask origin) (has_word warm good.1 (plain_get ask) origin) (λ hit i. has_word cold good.0 (refill ask hit e) (CopyOf i)) (get_names_hit warm ask origin))
+      if_some ask.op (WarmUpWord ask (PlanWord cold ask origin) (PlanWord warm (plain_get ask) origin) (λ hit i. PlanWord cold (refill ask hit e) (CopyOf i))) (PlanWord cold ask origin)
+      (warm_up_some ask (PlanWord cold ask origin) (PlanWord warm (plain_get ask) origin) (λ hit i. PlanWord cold (refill ask hit e) (CopyOf i)) (has_word cold good.0 ask origin) (has_word warm good.1 (plain_get ask) origin) (λ hit i. has_word cold good.0 (refill ask hit e) (CopyOf i)) (get_names_hit warm ask origin))
       (has_word cold good.0 ask origin) b
   has_word (ByOperation policies) good ask origin b = policy_some policies good ask origin b
 
-  pub all_some : (ps : Plans) → AreGood ps → (ask : Ask) (origin : Origin) → HasSome (WordOfAll ps ask origin)
+  pub all_some : (ps : Plans) → AreGoodPlans ps → (ask : Ask) (origin : Origin) → HasSome (WordOfAll ps ask origin)
   all_some End good ask origin b = ([], [], (refl, refl))
   all_some (More p ps) good ask origin b =
       let f = has_word p good.0 ask origin b in
       let more = all_some ps good.1 ask origin (b + length f.0) in
       (f.0 ++ more.0, f.1 ∷ more.1, (f.0, more.0, refl, f.1, f.2, more.1, refl, more.2))
 
-  pub first_some : (ps : Plans) (limit : ℕ) → IsNotEmpty ps → AreGood ps → (ask : Ask) (origin : Origin) → HasSome (WordOfFirst ps limit ask origin)
+  pub first_some : (ps : Plans) (limit : ℕ) → IsNotEmpty ps → AreGoodPlans ps → (ask : Ask) (origin : Origin) → HasSome (WordOfFirst ps limit ask origin)
   first_some End limit some good ask origin b = absurd some
   first_some (More p ps) limit some good ask origin b =
       let f = has_word p good.0 ask origin b in
       let more = first_rest p ps limit ask origin (λ s. first_some ps limit s good.1 ask origin) b [] f in
       (more.0, more.1, more.2)
 
-  pub head_some : (ps : Plans) → IsNotEmpty ps → AreGood ps → (ask : Ask) (origin : Origin) → HasSome (WordOfHead ps ask origin)
+  pub head_some : (ps : Plans) → IsNotEmpty ps → AreGoodPlans ps → (ask : Ask) (origin : Origin) → HasSome (WordOfHead ps ask origin)
   head_some End some good ask origin b = absurd some
   head_some (More p ps) some good ask origin b = has_word p good.0 ask origin b
 
-  pub policy_some : (ps : PlanPolicies) → ArePoliciesGood ps → (ask : Ask) (origin : Origin) → HasSome (WordOfPolicy ps ask origin)
+  pub policy_some : (ps : PlanPolicies) → AreGoodPlanPolicies ps → (ask : Ask) (origin : Origin) → HasSome (WordOfPolicy ps ask origin)
   policy_some (Otherwise p) good ask origin b = has_word p good ask origin b
   policy_some (Policy op p rest) good ask origin b =
-      match_some (same_op op ask.op) (Word p ask origin) (WordOfPolicy rest ask origin) (has_word p good.0 ask origin) (policy_some rest good.1 ask origin) b
+      match_some (same_op op ask.op) (PlanWord p ask origin) (WordOfPolicy rest ask origin) (has_word p good.0 ask origin) (policy_some rest good.1 ask origin) b
 
 pub each_ask_has_a_word : EachAskHasAWord
 each_ask_has_a_word plain ask origin b good = has_word plain good ask origin b
 
 -- ---- each outcome goes on
 
-pub server_on : (s : ℕ) (ask : Ask) (origin : Origin) → GoesOn (Word (Server s) ask origin)
+pub server_on : (s : ℕ) (ask : Ask) (origin : Origin) → GoesOn (PlanWord (Server s) ask origin)
 server_on s ask origin b calls [] call back given outcome e w fits =
     let is : call ≡ record { server = s; ask = ask; origin = origin; outcome = w.0 } = first_is call _ back [] (sym e ∙ w.2) in
     ([], given_by b outcome, (outcome, subst (λ (c : Call). FitsOutcome c.ask outcome) is fits, ap (λ c. ended c outcome ∷ []) is, refl))
@@ -162,14 +162,14 @@ server_on s ask origin b calls (x ∷ front) call back given outcome e w fits = 
     none (x ∷ xs) h = cc
 
 -- where the call stands after the first child's, that child's calls stay
-pub after_first : (p : Plan) (ps : Plans) (limit : ℕ) (ask : Ask) (origin : Origin) (b : ℕ) (front here more : List Call) (call : Call) (g : Given) → front ≡ here ++ more → Word p ask origin b here g → limit ≤ rank g → Rest (WordOfFirst ps limit ask origin) (b + length here) (more ++ call ∷ []) → Rest (WordOfFirst (More p ps) limit ask origin) b (front ++ call ∷ [])
+pub after_first : (p : Plan) (ps : Plans) (limit : ℕ) (ask : Ask) (origin : Origin) (b : ℕ) (front here more : List Call) (call : Call) (g : Given) → front ≡ here ++ more → PlanWord p ask origin b here g → limit ≤ rank g → Rest (WordOfFirst ps limit ask origin) (b + length here) (more ++ call ∷ []) → Rest (WordOfFirst (More p ps) limit ask origin) b (front ++ call ∷ [])
 after_first p ps limit ask origin b front here more call g e w le r =
-    let all : Rest (Then (Word p ask origin) (λ g n l x. (limit ≤ rank g) × WordOfFirst ps limit ask origin n l x)) b (front ++ call ∷ []) =
-    goes_after (Word p ask origin) (λ g n l x. (limit ≤ rank g) × WordOfFirst ps limit ask origin n l x) b front here more call g e w (r.0, r.1, (le, r.2)) in
+    let all : Rest (Then (PlanWord p ask origin) (λ g n l x. (limit ≤ rank g) × WordOfFirst ps limit ask origin n l x)) b (front ++ call ∷ []) =
+    goes_after (PlanWord p ask origin) (λ g n l x. (limit ≤ rank g) × WordOfFirst ps limit ask origin n l x) b front here more call g e w (r.0, r.1, (le, r.2)) in
     (all.0, all.1, inr (all.2.0, all.2.1, all.2.2, all.2.3, all.2.4, all.2.5.0, all.2.5.1))
 
 -- the first child's calls, and then the other children's
-pub first_on : (p : Plan) (ps : Plans) (limit : ℕ) (ask : Ask) (origin : Origin) → (IsNotEmpty ps → HasSome (WordOfFirst ps limit ask origin)) → GoesOn (Word p ask origin) → GoesOn (WordOfFirst ps limit ask origin) → GoesOn (WordOfFirst (More p ps) limit ask origin)
+pub first_on : (p : Plan) (ps : Plans) (limit : ℕ) (ask : Ask) (origin : Origin) → (IsNotEmpty ps → HasSome (WordOfFirst ps limit ask origin)) → GoesOn (PlanWord p ask origin) → GoesOn (WordOfFirst ps limit ask origin) → GoesOn (WordOfFirst (More p ps) limit ask origin)
 first_on p ps limit ask origin some f rest b calls front call back given outcome e (inl w) fits =
     first_rest p ps limit ask origin some b (front ++ ended call outcome ∷ []) (f b calls front call back given outcome e w.0 fits)
 first_on p ps limit ask origin some f rest b calls front call back given outcome e (inr w) fits =
@@ -183,7 +183,7 @@ abbrev All : Plans → Ask → Origin → Given → ℕ → List Call → List G
 All ps ask origin g b calls all = (rest : List Given) × (all ≡ g ∷ rest) × WordOfAll ps ask origin b calls rest
 
 mutual
-  pub goes_on : (p : Plan) → IsGood p → (ask : Ask) (origin : Origin) → GoesOn (Word p ask origin)
+  pub goes_on : (p : Plan) → IsGoodPlan p → (ask : Ask) (origin : Origin) → GoesOn (PlanWord p ask origin)
   goes_on (Server s) good ask origin b calls front call back given outcome e w fits = server_on s ask origin b calls front call back given outcome e w fits
   goes_on Null good ask origin b calls front call back given outcome e w fits = gives_on (null_reply ask) b calls front call back given outcome e w fits
   goes_on Failing good ask origin b calls front call back given outcome e w fits = gives_on failing_reply b calls front call back given outcome e w fits
@@ -195,41 +195,41 @@ mutual
   goes_on (MissFailover ps) good ask origin b calls front call back given outcome e w fits =
       if_on ask.op (WordOfFirst ps 1 ask origin) (WordOfHead ps ask origin) (each_on ps 1 good.1 ask origin) (head_on ps good.1 ask origin) b calls front call back given outcome e w fits
   goes_on (WarmUp cold warm e) good ask origin b calls front call back given outcome same w fits =
-      if_on ask.op (WarmUpWord ask (Word cold ask origin) (Word warm (plain_get ask) origin) (λ hit i. Word cold (refill ask hit e) (CopyOf i))) (Word cold ask origin)
-      (warm_up_on ask (Word cold ask origin) (Word warm (plain_get ask) origin) (λ hit i. Word cold (refill ask hit e) (CopyOf i)) (has_word cold good.0 ask origin) (has_word warm good.1 (plain_get ask) origin) (λ hit i. has_word cold good.0 (refill ask hit e) (CopyOf i)) (get_names_hit warm ask origin) (goes_on cold good.0 ask origin) (goes_on warm good.1 (plain_get ask) origin) (λ hit i. goes_on cold good.0 (refill ask hit e) (CopyOf i)))
+      if_on ask.op (WarmUpWord ask (PlanWord cold ask origin) (PlanWord warm (plain_get ask) origin) (λ hit i. PlanWord cold (refill ask hit e) (CopyOf i))) (PlanWord cold ask origin)
+      (warm_up_on ask (PlanWord cold ask origin) (PlanWord warm (plain_get ask) origin) (λ hit i. PlanWord cold (refill ask hit e) (CopyOf i)) (has_word cold good.0 ask origin) (has_word warm good.1 (plain_get ask) origin) (λ hit i. has_word cold good.0 (refill ask hit e) (CopyOf i)) (get_names_hit warm ask origin) (goes_on cold good.0 ask origin) (goes_on warm good.1 (plain_get ask) origin) (λ hit i. goes_on cold good.0 (refill ask hit e) (CopyOf i)))
       (goes_on cold good.0 ask origin) b calls front call back given outcome same w fits
   goes_on (ByOperation policies) good ask origin b calls front call back given outcome e w fits = policy_on policies good ask origin b calls front call back given outcome e w fits
 
-  pub all_on : (ps : Plans) → AreGood ps → (ask : Ask) (origin : Origin) → GoesOn (WordOfAll ps ask origin)
+  pub all_on : (ps : Plans) → AreGoodPlans ps → (ask : Ask) (origin : Origin) → GoesOn (WordOfAll ps ask origin)
   all_on End good ask origin b calls front call back all outcome e w fits = absurd (none front (sym e ∙ w.0))
     where
       none : (xs : List Call) → xs ++ call ∷ back ≡ [] → ⊥
       none [] h = cc
       none (x ∷ xs) h = cc
   all_on (More p ps) good ask origin b calls front call back all outcome e w fits =
-      let r : Rest (Then (Word p ask origin) (All ps ask origin)) b (front ++ ended call outcome ∷ []) =
-      then_on (Word p ask origin) (All ps ask origin) (λ _. Unit {0}) (λ _ _ _ _. tt)
+      let r : Rest (Then (PlanWord p ask origin) (All ps ask origin)) b (front ++ ended call outcome ∷ []) =
+      then_on (PlanWord p ask origin) (All ps ask origin) (λ _. Unit {0}) (λ _ _ _ _. tt)
       (λ g _ n. let r = all_some ps good.1 ask origin n in (r.0, g ∷ r.1, (r.1, refl, r.2)))
       (goes_on p good.0 ask origin)
       (λ g n l head x tail all o is v fit. let r = all_on ps good.1 ask origin n l head x tail v.0 o is v.2 fit in (r.0, g ∷ r.1, (r.1, refl, r.2)))
       b calls front call back all outcome e (w.0, w.1, w.2, w.3, w.4, (w.5, w.6, w.7)) fits in
       (r.0, r.1, (r.2.0, r.2.1, r.2.2, r.2.3, r.2.4, r.2.5.0, r.2.5.1, r.2.5.2))
 
-  pub each_on : (ps : Plans) (limit : ℕ) → AreGood ps → (ask : Ask) (origin : Origin) → GoesOn (WordOfFirst ps limit ask origin)
+  pub each_on : (ps : Plans) (limit : ℕ) → AreGoodPlans ps → (ask : Ask) (origin : Origin) → GoesOn (WordOfFirst ps limit ask origin)
   each_on End limit good ask origin b calls front call back given outcome e w fits = absurd w
   each_on (More p ps) limit good ask origin b calls front call back given outcome e w fits =
       first_on p ps limit ask origin (λ s. first_some ps limit s good.1 ask origin) (goes_on p good.0 ask origin) (each_on ps limit good.1 ask origin) b calls front call back given outcome e w fits
 
-  pub head_on : (ps : Plans) → AreGood ps → (ask : Ask) (origin : Origin) → GoesOn (WordOfHead ps ask origin)
+  pub head_on : (ps : Plans) → AreGoodPlans ps → (ask : Ask) (origin : Origin) → GoesOn (WordOfHead ps ask origin)
   head_on End good ask origin b calls front call back given outcome e w fits = absurd w
   head_on (More p ps) good ask origin b calls front call back given outcome e w fits = goes_on p good.0 ask origin b calls front call back given outcome e w fits
 
-  pub policy_on : (ps : PlanPolicies) → ArePoliciesGood ps → (ask : Ask) (origin : Origin) → GoesOn (WordOfPolicy ps ask origin)
+  pub policy_on : (ps : PlanPolicies) → AreGoodPlanPolicies ps → (ask : Ask) (origin : Origin) → GoesOn (WordOfPolicy ps ask origin)
   policy_on (Otherwise p) good ask origin b calls front call back given outcome e w fits = goes_on p good ask origin b calls front call back given outcome e w fits
   policy_on (Policy op p rest) good ask origin b calls front call back given outcome e w fits =
-      match_on (same_op op ask.op) (Word p ask origin) (WordOfPolicy rest ask origin) (goes_on p good.0 ask origin) (policy_on rest good.1 ask origin) b calls front call back given outcome e w fits
+      match_on (same_op op ask.op) (PlanWord p ask origin) (WordOfPolicy rest ask origin) (goes_on p good.0 ask origin) (policy_on rest good.1 ask origin) b calls front call back given outcome e w fits
 
 pub each_outcome_goes_on : EachOutcomeGoesOn
 each_outcome_goes_on plain ask origin b front call back given outcome good w fits =
     let r = goes_on plain good ask origin b (front ++ call ∷ back) front call back given outcome refl w fits in
-    (r.0, r.1, subst (λ l. Word plain ask origin b l r.1) (append_assoc front (ended call outcome ∷ []) r.0) r.2)
+    (r.0, r.1, subst (λ l. PlanWord plain ask origin b l r.1) (append_assoc front (ended call outcome ∷ []) r.0) r.2)

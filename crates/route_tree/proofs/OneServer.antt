@@ -9,7 +9,7 @@ use Rattle.route_tree.specs.Plan as plan
 use Rattle.route_tree.specs.Plan.{Plan}
 use Rattle.route_tree.specs.Route.{Route, Prefixes, Pool, Server, Null, Failing, AllSync, Failover, MissFailover, WarmUp, ByOperation, ByPrefix, Wildcard, Prefix}
 use Rattle.route_tree.specs.At.{begins, is_longer, plain_for, plain_for_prefixes, tree_at}
-use Rattle.route_tree.specs.Word.{Word, tree_words}
+use Rattle.route_tree.specs.Word.{PlanWord, tree_words}
 use Rattle.route_tree.specs.Direct.{is_direct, are_direct, server_of, server_at, DirectIsOneServer}
 use Rattle.route_tree.proofs.Words.{one_server_is_one_call}
 
@@ -49,7 +49,7 @@ module _ (hash : ℕ) (text : List ℕ) where
 -- the words of trees that are the same for each number and key
 words_agree : (first second : List ℕ → Plan) → ((key : List ℕ) → first key ≡ second key) → (number : ℕ) (ask : Ask) (calls : List Call) (reply : Answer) (from : Option ℕ) → tree_words (λ n key. first key) number ask calls reply from → tree_words (λ n key. second key) number ask calls reply from
 words_agree first second same number ask calls reply from w =
-    (w.0, subst (λ p. Word p ask Client 0 calls (record { reply = reply; from = from })) (same ask.key) w.1)
+    (w.0, subst (λ p. PlanWord p ask Client 0 calls (record { reply = reply; from = from })) (same ask.key) w.1)
 
 pub direct_is_one_server : DirectIsOneServer
 direct_is_one_server tree direct =

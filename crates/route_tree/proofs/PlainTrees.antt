@@ -10,9 +10,9 @@ use Rattle.route_tree.specs.Chosen.{chosen}
 module _ (hash : ℕ) (text : List ℕ) where
   abbrev BestGood : Option (List ℕ × Plan) → Type 0
   BestGood None = Unit {0}
-  BestGood (Some best) = plan.IsGood best.1
+  BestGood (Some best) = plan.IsGoodPlan best.1
 
-  best_good : (b : Bool) (x : List ℕ × Plan) (best : Option (List ℕ × Plan)) → plan.IsGood x.1 → BestGood best → BestGood (cond b (Some x) best)
+  best_good : (b : Bool) (x : List ℕ × Plan) (best : Option (List ℕ × Plan)) → plan.IsGoodPlan x.1 → BestGood best → BestGood (cond b (Some x) best)
   best_good true x best g h = g
   best_good false x best g h = h
 
@@ -21,7 +21,7 @@ module _ (hash : ℕ) (text : List ℕ) where
   some_left (More r rs) h = tt
 
   mutual
-    pub good_plain : (r : Route) → IsGood r → plan.IsGood (plain_for hash text r)
+    pub good_plain : (r : Route) → IsGood r → plan.IsGoodPlan (plain_for hash text r)
     good_plain (Pool servers) h = tt
     good_plain (Server s) h = tt
     good_plain Null h = tt
@@ -33,15 +33,15 @@ module _ (hash : ℕ) (text : List ℕ) where
     good_plain (ByOperation ps) h = policies_good_plain ps h
     good_plain (ByPrefix ps) h = prefixes_good_plain ps None tt h
 
-    all_good_plain : (rs : Routes) → AreGood rs → plan.AreGood (plain_for_all hash text rs)
+    all_good_plain : (rs : Routes) → AreGood rs → plan.AreGoodPlans (plain_for_all hash text rs)
     all_good_plain End h = tt
     all_good_plain (More r rs) h = (good_plain r h.0, all_good_plain rs h.1)
 
-    policies_good_plain : (ps : Policies) → ArePoliciesGood ps → plan.ArePoliciesGood (plain_for_policies hash text ps)
+    policies_good_plain : (ps : Policies) → ArePoliciesGood ps → plan.AreGoodPlanPolicies (plain_for_policies hash text ps)
     policies_good_plain (Otherwise r) h = good_plain r h
     policies_good_plain (Policy op r ps) h = (good_plain r h.0, policies_good_plain ps h.1)
 
-    prefixes_good_plain : (ps : Prefixes) (best : Option (List ℕ × Plan)) → BestGood best → ArePrefixesGood ps → plan.IsGood (plain_for_prefixes hash text ps best)
+    prefixes_good_plain : (ps : Prefixes) (best : Option (List ℕ × Plan)) → BestGood best → ArePrefixesGood ps → plan.IsGoodPlan (plain_for_prefixes hash text ps best)
     prefixes_good_plain (Wildcard r) None b h = good_plain r h
     prefixes_good_plain (Wildcard r) (Some best) b h = b
     prefixes_good_plain (Prefix p r ps) best b h = prefixes_good_plain ps _ (best_good (begins p text && is_longer p best) (p, plain_for hash text r) best (good_plain r h.1) b) h.2
@@ -56,7 +56,7 @@ module _ (hash : ℕ) (text : List ℕ) where
   number_within number false x best n m h k = omega (arith, k)
 
   mutual
-    pub depth_plain : (r : Route) → plan.depth (plain_for hash text r) ≤ depth r
+    pub depth_plain : (r : Route) → plan.plan_depth (plain_for hash text r) ≤ depth r
     depth_plain (Pool servers) = omega arith
     depth_plain (Server s) = omega arith
     depth_plain Null = omega arith
@@ -68,23 +68,23 @@ module _ (hash : ℕ) (text : List ℕ) where
     depth_plain (ByOperation ps) = omega (arith, policies_depth_plain ps)
     depth_plain (ByPrefix ps) = omega (arith, prefixes_depth_plain ps None 0 (omega arith))
 
-    all_depth_plain : (rs : Routes) → plan.depth_of_all (plain_for_all hash text rs) ≤ depth_of_all rs
+    all_depth_plain : (rs : Routes) → plan.plan_depth_of_all (plain_for_all hash text rs) ≤ depth_of_all rs
     all_depth_plain End = omega arith
     all_depth_plain (More r rs) = omega (arith, depth_plain r, all_depth_plain rs)
 
-    policies_depth_plain : (ps : Policies) → plan.depth_of_policies (plain_for_policies hash text ps) ≤ depth_of_policies ps
+    policies_depth_plain : (ps : Policies) → plan.plan_depth_of_policies (plain_for_policies hash text ps) ≤ depth_of_policies ps
     policies_depth_plain (Otherwise r) = depth_plain r
     policies_depth_plain (Policy op r ps) = omega (arith, depth_plain r, policies_depth_plain ps)
 
-    prefixes_depth_plain : (ps : Prefixes) (best : Option (List ℕ × Plan)) (m : ℕ) → best_number plan.depth best ≤ m → plan.depth (plain_for_prefixes hash text ps best) ≤ max (depth_of_prefixes ps) m
+    prefixes_depth_plain : (ps : Prefixes) (best : Option (List ℕ × Plan)) (m : ℕ) → best_number plan.plan_depth best ≤ m → plan.plan_depth (plain_for_prefixes hash text ps best) ≤ max (depth_of_prefixes ps) m
     prefixes_depth_plain (Wildcard r) None m h = omega (arith, depth_plain r)
     prefixes_depth_plain (Wildcard r) (Some best) m h = omega (arith, h)
     prefixes_depth_plain (Prefix p r ps) best m h =
-        let k = number_within plan.depth (begins p text && is_longer p best) (p, plain_for hash text r) best (depth r) m (depth_plain r) h in
+        let k = number_within plan.plan_depth (begins p text && is_longer p best) (p, plain_for hash text r) best (depth r) m (depth_plain r) h in
         omega (arith, prefixes_depth_plain ps _ _ k)
 
   mutual
-    pub count_plain : (r : Route) → plan.count (plain_for hash text r) ≤ count r
+    pub count_plain : (r : Route) → plan.plan_count (plain_for hash text r) ≤ count r
     count_plain (Pool servers) = omega arith
     count_plain (Server s) = omega arith
     count_plain Null = omega arith
@@ -96,19 +96,19 @@ module _ (hash : ℕ) (text : List ℕ) where
     count_plain (ByOperation ps) = omega (arith, policies_count_plain ps)
     count_plain (ByPrefix ps) = omega (arith, prefixes_count_plain ps None 0 (omega arith))
 
-    all_count_plain : (rs : Routes) → plan.count_of_all (plain_for_all hash text rs) ≤ count_of_all rs
+    all_count_plain : (rs : Routes) → plan.plan_count_of_all (plain_for_all hash text rs) ≤ count_of_all rs
     all_count_plain End = omega arith
     all_count_plain (More r rs) = omega (arith, count_plain r, all_count_plain rs)
 
-    policies_count_plain : (ps : Policies) → plan.count_of_policies (plain_for_policies hash text ps) ≤ count_of_policies ps
+    policies_count_plain : (ps : Policies) → plan.plan_count_of_policies (plain_for_policies hash text ps) ≤ count_of_policies ps
     policies_count_plain (Otherwise r) = count_plain r
     policies_count_plain (Policy op r ps) = omega (arith, count_plain r, policies_count_plain ps)
 
-    prefixes_count_plain : (ps : Prefixes) (best : Option (List ℕ × Plan)) (m : ℕ) → best_number plan.count best ≤ m → plan.count (plain_for_prefixes hash text ps best) ≤ max (count_of_prefixes ps) m
+    prefixes_count_plain : (ps : Prefixes) (best : Option (List ℕ × Plan)) (m : ℕ) → best_number plan.plan_count best ≤ m → plan.plan_count (plain_for_prefixes hash text ps best) ≤ max (count_of_prefixes ps) m
     prefixes_count_plain (Wildcard r) None m h = omega (arith, count_plain r)
     prefixes_count_plain (Wildcard r) (Some best) m h = omega (arith, h)
     prefixes_count_plain (Prefix p r ps) best m h =
-        let k = number_within plan.count (begins p text && is_longer p best) (p, plain_for hash text r) best (count r) m (count_plain r) h in
+        let k = number_within plan.plan_count (begins p text && is_longer p best) (p, plain_for hash text r) best (count r) m (count_plain r) h in
         omega (arith, prefixes_count_plain ps _ _ k)
 
   -- what is left of a tree keeps the limits of plain trees

@@ -18,7 +18,7 @@ use Rattle.route_tree.specs.Route as route
 use Rattle.route_tree.specs.Route.{Route, Routes, Policies, Prefixes}
 use Rattle.route_tree.specs.At.{begins, is_longer, plain_for, plain_for_all, plain_for_policies, plain_for_prefixes}
 use Rattle.route_tree.specs.Place.{prefix_text}
-use Rattle.route_tree.specs.Word.{Given, rank, plain_get, refill, is_plain_get, Word, WordOfAll, WordOfFirst, WordOfHead, WordOfPolicy, GivesOnly, AfterRefill, Refilled, AfterWarm, AfterCold, WarmUpWord}
+use Rattle.route_tree.specs.Word.{Given, rank, plain_get, refill, is_plain_get, PlanWord, WordOfAll, WordOfFirst, WordOfHead, WordOfPolicy, GivesOnly, AfterRefill, Refilled, AfterWarm, AfterCold, WarmUpWord}
 use Rattle.route_tree.specs.Servers.{servers, servers_of_all, servers_of_policies, tree_servers, tree_servers_of_all, tree_servers_of_policies, tree_servers_of_prefixes, ServersStay, TreeCallsStay}
 use Rattle.route_tree.proofs.Parts.{each_weaker, if_get, match_bool}
 use Rattle.route_tree.proofs.Places.{each_append, each_left, each_right}
@@ -126,7 +126,7 @@ module _ (P : ℕ → Type 0) (key : List ℕ) where
   Stays call = (call.ask.key ≡ key) × P call.server
 
   mutual
-    pub stay : (p : Plan) → Each P (servers p) → (ask : Ask) → ask.key ≡ key → (origin : Origin) → Calls Stays (Word p ask origin)
+    pub stay : (p : Plan) → Each P (servers p) → (ask : Ask) → ask.key ≡ key → (origin : Origin) → Calls Stays (PlanWord p ask origin)
     stay (plan.Server s) h ask k origin b calls given w = subst (Each Stays) (sym w.2) ((k, h.0), tt)
     stay plan.Null h ask k origin b calls given w = subst (Each Stays) (sym w.0) tt
     stay plan.Failing h ask k origin b calls given w = subst (Each Stays) (sym w.0) tt
@@ -138,7 +138,7 @@ module _ (P : ℕ → Type 0) (key : List ℕ) where
         let in_cold = each_left P (servers cold) (servers warm) h in
         let in_warm = each_right P (servers cold) (servers warm) h in
         if_get ask.op _ _ (Each Stays calls) w
-        (λ _ x. warm_up_calls Stays ask (Word cold ask origin) (Word warm (plain_get ask) origin) (λ hit i. Word cold (refill ask hit e) (CopyOf i)) (stay cold in_cold ask k origin) (stay warm in_warm (plain_get ask) k origin) (λ hit i. stay cold in_cold (refill ask hit e) (subst (λ l. l ≡ key) (sym (refill_key ask hit e)) k) (CopyOf i)) b calls given x)
+        (λ _ x. warm_up_calls Stays ask (PlanWord cold ask origin) (PlanWord warm (plain_get ask) origin) (λ hit i. PlanWord cold (refill ask hit e) (CopyOf i)) (stay cold in_cold ask k origin) (stay warm in_warm (plain_get ask) k origin) (λ hit i. stay cold in_cold (refill ask hit e) (subst (λ l. l ≡ key) (sym (refill_key ask hit e)) k) (CopyOf i)) b calls given x)
         (λ x. stay cold in_cold ask k origin b calls given x)
     stay (plan.ByOperation policies) h ask k origin b calls given w = policy_stay policies h ask k origin b calls given w
 

@@ -18,7 +18,7 @@ use Rattle.fresh_runs.specs.Cover.{IsAnswerOf}
 use Rattle.route_tree.specs.Operation.{same_op}
 use Rattle.route_tree.specs.Plan.{Plan, Plans, PlanPolicies, Server, Null, Failing, AllSync, Failover, MissFailover, WarmUp, ByOperation, End, More, Otherwise, Policy}
 use Rattle.route_tree.specs.Each.{Each}
-use Rattle.route_tree.specs.Word.{Given, rank, given_by, null_reply, failing_reply, word_of_nothing, answer_of_nothing, plain_get, refill, is_plain_get, Word, WordOfAll, WordOfFirst, WordOfHead, WordOfPolicy, AfterRefill, Refilled, AfterWarm, AfterCold, WarmUpWord}
+use Rattle.route_tree.specs.Word.{Given, rank, given_by, null_reply, failing_reply, word_of_nothing, answer_of_nothing, plain_get, refill, is_plain_get, PlanWord, WordOfAll, WordOfFirst, WordOfHead, WordOfPolicy, AfterRefill, Refilled, AfterWarm, AfterCold, WarmUpWord}
 use Rattle.route_tree.specs.WordLaws.{RepliesShowWhatWasFound}
 use Rattle.route_tree.proofs.Parts.{worst_is, match_bool, if_get, each_weaker}
 
@@ -133,7 +133,7 @@ server_finds s ask origin b (Answered answer) is fit =
     ]) refl
 
 mutual
-  pub finds : (p : Plan) (ask : Ask) → IsAsk ask → (origin : Origin) → Finds (Word p ask origin)
+  pub finds : (p : Plan) (ask : Ask) → IsAsk ask → (origin : Origin) → Finds (PlanWord p ask origin)
   finds (Server s) ask is origin b calls given w =
       subst (λ l. Found b l given) (sym w.2) (subst (Found b (record { server = s; ask = ask; origin = origin; outcome = w.0 } ∷ [])) (sym w.3) (server_finds s ask origin b w.0 is w.1))
   finds Null ask is origin b calls given w = found_nothing b calls given (null_reply ask) w.1 refl (null_shows_nothing ask)
@@ -144,7 +144,7 @@ mutual
       if_get ask.op _ _ (Found b calls given) w (λ _ h. first_finds ps 1 ask is origin b calls given h) (λ h. head_finds ps ask is origin b calls given h)
   finds (WarmUp cold warm e) ask is origin b calls given w =
       if_get ask.op _ _ (Found b calls given) w
-      (λ _ h. warm_up_finds ask (Word cold ask origin) (Word warm (plain_get ask) origin) (λ hit i. Word cold (refill ask hit e) (CopyOf i)) (finds cold ask is origin) (finds warm (plain_get ask) (plain_get_is_ask ask is) origin) b calls given h)
+      (λ _ h. warm_up_finds ask (PlanWord cold ask origin) (PlanWord warm (plain_get ask) origin) (λ hit i. PlanWord cold (refill ask hit e) (CopyOf i)) (finds cold ask is origin) (finds warm (plain_get ask) (plain_get_is_ask ask is) origin) b calls given h)
       (λ h. finds cold ask is origin b calls given h)
   finds (ByOperation policies) ask is origin b calls given w = policy_finds policies ask is origin b calls given w
 

@@ -14,7 +14,7 @@ use Rattle.fresh_runs.specs.Calls.{Call}
 use Rattle.fresh_runs.specs.Cover.{IsAnswerOf}
 use Rattle.route_tree.specs.Operation.{same_op}
 use Rattle.route_tree.specs.Plan.{Plan, Plans, PlanPolicies, Server, Null, Failing, AllSync, Failover, MissFailover, WarmUp, ByOperation, End, More, Otherwise, Policy}
-use Rattle.route_tree.specs.Word.{Given, rank, plain_get, refill, is_plain_get, Word, WordOfAll, WordOfFirst, WordOfHead, WordOfPolicy, AfterRefill, Refilled, AfterWarm, AfterCold, WarmUpWord}
+use Rattle.route_tree.specs.Word.{Given, rank, plain_get, refill, is_plain_get, PlanWord, WordOfAll, WordOfFirst, WordOfHead, WordOfPolicy, AfterRefill, Refilled, AfterWarm, AfterCold, WarmUpWord}
 use Rattle.route_tree.specs.Sources.{IsFormed, IsSourced, AreAsked, CallsAreAsked}
 use Rattle.route_tree.proofs.Parts.{match_bool, if_get}
 use Rattle.route_tree.proofs.Showing.{IsFound, Found, Finds, get_front, get_back, answer_there, finds}
@@ -129,7 +129,7 @@ module _ (d : Dialect) where
   -- ---- every word
 
   mutual
-    asked : (p : Plan) (ask : Ask) → IsFormed ask → (d ≡ Classic → ask.dialect ≡ Classic) → (o : Origin) → Asks o (Word p ask o)
+    asked : (p : Plan) (ask : Ask) → IsFormed ask → (d ≡ Classic → ask.dialect ≡ Classic) → (o : Origin) → Asks o (PlanWord p ask o)
     asked (Server s) ask is c o b calls given w = subst (AreAsked d o b []) (sym w.2) (is, c, inl refl, tt)
     asked Null ask is c o b calls given w = none o b [] calls w.0
     asked Failing ask is c o b calls given w = none o b [] calls w.0
@@ -139,7 +139,7 @@ module _ (d : Dialect) where
         if_get ask.op _ _ (AreAsked d o b [] calls) w (λ _ h. first_asked ps 1 ask is c o b calls given h) (λ h. head_asked ps ask is c o b calls given h)
     asked (WarmUp cold warm e) ask is c o b calls given w =
         if_get ask.op _ _ (AreAsked d o b [] calls) w
-        (λ _ h. warm_up_asks o ask (Word cold ask o) (Word warm (plain_get ask) o) (λ hit i. Word cold (refill ask hit e) (CopyOf i))
+        (λ _ h. warm_up_asks o ask (PlanWord cold ask o) (PlanWord warm (plain_get ask) o) (λ hit i. PlanWord cold (refill ask hit e) (CopyOf i))
         (asked cold ask is c o)
         (asked warm (plain_get ask) (formed (plain_get ask) (get_is_ask ask is.key)) (λ _. refl) o)
         (finds warm (plain_get ask) (get_is_ask ask is.key) o)

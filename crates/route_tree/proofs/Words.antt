@@ -12,8 +12,8 @@ use Rattle.fresh_runs.specs.Calls.{Call}
 use Rattle.fresh_runs.specs.Single.{from_of}
 use Rattle.route_tree.specs.Each.{Each}
 use Rattle.route_tree.specs.Operation.{same_op}
-use Rattle.route_tree.specs.Plan.{Plan, Plans, PlanPolicies, Server, Null, Failing, AllSync, Failover, MissFailover, WarmUp, ByOperation, End, More, Otherwise, Policy, count, count_of_all, count_of_policies}
-use Rattle.route_tree.specs.Word.{Given, rank, from_call, plain_get, refill, is_plain_get, Word, WordOfAll, WordOfFirst, WordOfHead, WordOfPolicy, AfterRefill, Refilled, AfterWarm, AfterCold, WarmUpWord}
+use Rattle.route_tree.specs.Plan.{Plan, Plans, PlanPolicies, Server, Null, Failing, AllSync, Failover, MissFailover, WarmUp, ByOperation, End, More, Otherwise, Policy, plan_count, plan_count_of_all, plan_count_of_policies}
+use Rattle.route_tree.specs.Word.{Given, rank, from_call, plain_get, refill, is_plain_get, PlanWord, WordOfAll, WordOfFirst, WordOfHead, WordOfPolicy, AfterRefill, Refilled, AfterWarm, AfterCold, WarmUpWord}
 use Rattle.route_tree.specs.WordLaws.{AskIsPassedOn, DeletesAskDeletes, CallsAreWithin, OneServerIsOneCall}
 use Rattle.route_tree.proofs.Parts.{each_weaker, if_get, match_bool, Within, then_within, gives_within}
 use Rattle.route_tree.proofs.Places.{each_append}
@@ -32,7 +32,7 @@ own_join : (ask : Ask) (origin : Origin) (calls front back : List Call) → call
 own_join ask origin calls front back e h k = subst (Each (IsOwn ask origin)) (sym e) (each_append (IsOwn ask origin) front back h k)
 
 mutual
-  pub own_calls : (p : Plan) (ask : Ask) (origin : Origin) (b : ℕ) (calls : List Call) (given : Given) → Word p ask origin b calls given → Each (IsOwn ask origin) calls
+  pub own_calls : (p : Plan) (ask : Ask) (origin : Origin) (b : ℕ) (calls : List Call) (given : Given) → PlanWord p ask origin b calls given → Each (IsOwn ask origin) calls
   own_calls (Server s) ask origin b calls given w = subst (Each (IsOwn ask origin)) (sym w.2) (inl (refl, refl), tt)
   own_calls Null ask origin b calls given w = subst (Each (IsOwn ask origin)) (sym w.0) tt
   own_calls Failing ask origin b calls given w = subst (Each (IsOwn ask origin)) (sym w.0) tt
@@ -98,21 +98,21 @@ module _ (ask : Ask) (cold : ℕ → List Call → Given → Type 0) (warm : ℕ
   warm_up_within b calls given w = then_within n (m + (n + n)) cold (λ first. AfterCold ask cold warm add first (rank first)) in_cold (λ first. after_cold_within first (rank first)) b calls given w
 
 mutual
-  pub within : (p : Plan) (ask : Ask) (origin : Origin) → Within (count p) (Word p ask origin)
+  pub within : (p : Plan) (ask : Ask) (origin : Origin) → Within (plan_count p) (PlanWord p ask origin)
   within (Server s) ask origin b calls given w = let e = ap length w.2 in omega (arith, e)
   within Null ask origin b calls given w = let e = ap length w.0 in omega (arith, e)
   within Failing ask origin b calls given w = let e = ap length w.0 in omega (arith, e)
   within (AllSync ps) ask origin b calls given w = let k = all_within ps ask origin b calls w.0 w.1 in omega (arith, k)
   within (Failover ps) ask origin b calls given w = let k = first_within ps 4 ask origin b calls given w in omega (arith, k)
   within (MissFailover ps) ask origin b calls given w =
-      if_get ask.op _ _ (length calls ≤ count (MissFailover ps)) w (λ _ h. let k = first_within ps 1 ask origin b calls given h in omega (arith, k)) (λ h. let k = head_within ps ask origin b calls given h in omega (arith, k))
+      if_get ask.op _ _ (length calls ≤ plan_count (MissFailover ps)) w (λ _ h. let k = first_within ps 1 ask origin b calls given h in omega (arith, k)) (λ h. let k = head_within ps ask origin b calls given h in omega (arith, k))
   within (WarmUp cold warm e) ask origin b calls given w =
-      if_get ask.op _ _ (length calls ≤ count (WarmUp cold warm e)) w
-      (λ _ h. let k = warm_up_within ask (Word cold ask origin) (Word warm (plain_get ask) origin) (λ hit i. Word cold (refill ask hit e) (CopyOf i)) (count cold) (count warm) (within cold ask origin) (within warm (plain_get ask) origin) (λ hit i. within cold (refill ask hit e) (CopyOf i)) b calls given h in omega (arith, k))
+      if_get ask.op _ _ (length calls ≤ plan_count (WarmUp cold warm e)) w
+      (λ _ h. let k = warm_up_within ask (PlanWord cold ask origin) (PlanWord warm (plain_get ask) origin) (λ hit i. PlanWord cold (refill ask hit e) (CopyOf i)) (plan_count cold) (plan_count warm) (within cold ask origin) (within warm (plain_get ask) origin) (λ hit i. within cold (refill ask hit e) (CopyOf i)) b calls given h in omega (arith, k))
       (λ h. let k = within cold ask origin b calls given h in omega (arith, k))
   within (ByOperation policies) ask origin b calls given w = let k = policy_within policies ask origin b calls given w in omega (arith, k)
 
-  all_within : (ps : Plans) (ask : Ask) (origin : Origin) → Within (count_of_all ps) (WordOfAll ps ask origin)
+  all_within : (ps : Plans) (ask : Ask) (origin : Origin) → Within (plan_count_of_all ps) (WordOfAll ps ask origin)
   all_within End ask origin b calls all w = let e = ap length w.0 in omega (arith, e)
   all_within (More p ps) ask origin b calls all w =
       let size : length calls ≡ length w.0 + length w.1 = ap length w.2 ∙ length-append w.0 w.1 in
@@ -120,7 +120,7 @@ mutual
       let there = all_within ps ask origin (b + length w.0) w.1 w.5 w.7 in
       omega (arith, size, here, there)
 
-  first_within : (ps : Plans) (limit : ℕ) (ask : Ask) (origin : Origin) → Within (count_of_all ps) (WordOfFirst ps limit ask origin)
+  first_within : (ps : Plans) (limit : ℕ) (ask : Ask) (origin : Origin) → Within (plan_count_of_all ps) (WordOfFirst ps limit ask origin)
   first_within End limit ask origin b calls given w = absurd w
   first_within (More p ps) limit ask origin b calls given (inl w) = let k = within p ask origin b calls given w.0 in omega (arith, k)
   first_within (More p ps) limit ask origin b calls given (inr w) =
@@ -129,14 +129,14 @@ mutual
       let there = first_within ps limit ask origin (b + length w.0) w.1 given w.6 in
       omega (arith, size, here, there)
 
-  head_within : (ps : Plans) (ask : Ask) (origin : Origin) → Within (count_of_all ps) (WordOfHead ps ask origin)
+  head_within : (ps : Plans) (ask : Ask) (origin : Origin) → Within (plan_count_of_all ps) (WordOfHead ps ask origin)
   head_within End ask origin b calls given w = absurd w
   head_within (More p ps) ask origin b calls given w = let k = within p ask origin b calls given w in omega (arith, k)
 
-  policy_within : (ps : PlanPolicies) (ask : Ask) (origin : Origin) → Within (count_of_policies ps) (WordOfPolicy ps ask origin)
+  policy_within : (ps : PlanPolicies) (ask : Ask) (origin : Origin) → Within (plan_count_of_policies ps) (WordOfPolicy ps ask origin)
   policy_within (Otherwise p) ask origin b calls given w = within p ask origin b calls given w
   policy_within (Policy op p rest) ask origin b calls given w =
-      match_bool (same_op op ask.op) _ _ (length calls ≤ count_of_policies (Policy op p rest)) w
+      match_bool (same_op op ask.op) _ _ (length calls ≤ plan_count_of_policies (Policy op p rest)) w
       (λ h. let k = within p ask origin b calls given h in omega (arith, k))
       (λ h. let k = policy_within rest ask origin b calls given h in omega (arith, k))
 

@@ -32,72 +32,72 @@ IsNotEmpty (More p ps) = Unit {0}
 
 abbrev mutual
   -- no list of children is empty
-  pub IsGood : Plan → Type 0
-  IsGood (Server s) = Unit {0}
-  IsGood Null = Unit {0}
-  IsGood Failing = Unit {0}
-  IsGood (AllSync ps) = IsNotEmpty ps × AreGood ps
-  IsGood (Failover ps) = IsNotEmpty ps × AreGood ps
-  IsGood (MissFailover ps) = IsNotEmpty ps × AreGood ps
-  IsGood (WarmUp cold warm e) = IsGood cold × IsGood warm
-  IsGood (ByOperation policies) = ArePoliciesGood policies
+  pub IsGoodPlan : Plan → Type 0
+  IsGoodPlan (Server s) = Unit {0}
+  IsGoodPlan Null = Unit {0}
+  IsGoodPlan Failing = Unit {0}
+  IsGoodPlan (AllSync ps) = IsNotEmpty ps × AreGoodPlans ps
+  IsGoodPlan (Failover ps) = IsNotEmpty ps × AreGoodPlans ps
+  IsGoodPlan (MissFailover ps) = IsNotEmpty ps × AreGoodPlans ps
+  IsGoodPlan (WarmUp cold warm e) = IsGoodPlan cold × IsGoodPlan warm
+  IsGoodPlan (ByOperation policies) = AreGoodPlanPolicies policies
 
   -- each of these children is good
-  pub AreGood : Plans → Type 0
-  AreGood End = Unit {0}
-  AreGood (More p ps) = IsGood p × AreGood ps
+  pub AreGoodPlans : Plans → Type 0
+  AreGoodPlans End = Unit {0}
+  AreGoodPlans (More p ps) = IsGoodPlan p × AreGoodPlans ps
 
   -- each of the children by operation is good
-  pub ArePoliciesGood : PlanPolicies → Type 0
-  ArePoliciesGood (Otherwise p) = IsGood p
-  ArePoliciesGood (Policy op p rest) = IsGood p × ArePoliciesGood rest
+  pub AreGoodPlanPolicies : PlanPolicies → Type 0
+  AreGoodPlanPolicies (Otherwise p) = IsGoodPlan p
+  AreGoodPlanPolicies (Policy op p rest) = IsGoodPlan p × AreGoodPlanPolicies rest
 
 abbrev mutual
   -- how deep a plain tree is nested; a leaf has depth 1
-  pub depth : Plan → ℕ
-  depth (Server s) = 1
-  depth Null = 1
-  depth Failing = 1
-  depth (AllSync ps) = depth_of_all ps + 1
-  depth (Failover ps) = depth_of_all ps + 1
-  depth (MissFailover ps) = depth_of_all ps + 1
-  depth (WarmUp cold warm e) = max (depth cold) (depth warm) + 1
-  depth (ByOperation ps) = depth_of_policies ps + 1
+  pub plan_depth : Plan → ℕ
+  plan_depth (Server s) = 1
+  plan_depth Null = 1
+  plan_depth Failing = 1
+  plan_depth (AllSync ps) = plan_depth_of_all ps + 1
+  plan_depth (Failover ps) = plan_depth_of_all ps + 1
+  plan_depth (MissFailover ps) = plan_depth_of_all ps + 1
+  plan_depth (WarmUp cold warm e) = max (plan_depth cold) (plan_depth warm) + 1
+  plan_depth (ByOperation ps) = plan_depth_of_policies ps + 1
 
   -- the depth of the deepest child
-  pub depth_of_all : Plans → ℕ
-  depth_of_all End = 0
-  depth_of_all (More p ps) = max (depth p) (depth_of_all ps)
+  pub plan_depth_of_all : Plans → ℕ
+  plan_depth_of_all End = 0
+  plan_depth_of_all (More p ps) = max (plan_depth p) (plan_depth_of_all ps)
 
   -- the depth of the deepest child by operation
-  pub depth_of_policies : PlanPolicies → ℕ
-  depth_of_policies (Otherwise p) = depth p
-  depth_of_policies (Policy op p ps) = max (depth p) (depth_of_policies ps)
+  pub plan_depth_of_policies : PlanPolicies → ℕ
+  plan_depth_of_policies (Otherwise p) = plan_depth p
+  plan_depth_of_policies (Policy op p ps) = max (plan_depth p) (plan_depth_of_policies ps)
 
 abbrev mutual
   -- how many routes a plain tree has, each counted three times for every cold that it stands in
-  pub count : Plan → ℕ
-  count (Server s) = 1
-  count Null = 1
-  count Failing = 1
-  count (AllSync ps) = 1 + count_of_all ps
-  count (Failover ps) = 1 + count_of_all ps
-  count (MissFailover ps) = 1 + count_of_all ps
-  count (WarmUp cold warm e) = 1 + 3 * count cold + count warm
-  count (ByOperation ps) = 1 + count_of_policies ps
+  pub plan_count : Plan → ℕ
+  plan_count (Server s) = 1
+  plan_count Null = 1
+  plan_count Failing = 1
+  plan_count (AllSync ps) = 1 + plan_count_of_all ps
+  plan_count (Failover ps) = 1 + plan_count_of_all ps
+  plan_count (MissFailover ps) = 1 + plan_count_of_all ps
+  plan_count (WarmUp cold warm e) = 1 + 3 * plan_count cold + plan_count warm
+  plan_count (ByOperation ps) = 1 + plan_count_of_policies ps
 
   -- the sum of the counts of all children
-  pub count_of_all : Plans → ℕ
-  count_of_all End = 0
-  count_of_all (More p ps) = count p + count_of_all ps
+  pub plan_count_of_all : Plans → ℕ
+  plan_count_of_all End = 0
+  plan_count_of_all (More p ps) = plan_count p + plan_count_of_all ps
 
   -- the sum of the counts of the children by operation
-  pub count_of_policies : PlanPolicies → ℕ
-  count_of_policies (Otherwise p) = count p
-  count_of_policies (Policy op p ps) = count p + count_of_policies ps
+  pub plan_count_of_policies : PlanPolicies → ℕ
+  plan_count_of_policies (Otherwise p) = plan_count p
+  plan_count_of_policies (Policy op p ps) = plan_count p + plan_count_of_policies ps
 
 -- what every plain tree keeps
 pub record IsPlan (p : Plan) : Type 0 where
-  pub good : IsGood p
-  pub deep : depth p ≤ DEPTH_LIMIT
-  pub many : count p ≤ ROUTE_LIMIT
+  pub good : IsGoodPlan p
+  pub deep : plan_depth p ≤ DEPTH_LIMIT
+  pub many : plan_count p ≤ ROUTE_LIMIT

@@ -12,7 +12,7 @@ use Rattle.route_tree.specs.Route as route
 use Rattle.route_tree.specs.Route.{Route, Routes, Policies, Prefixes, IsTree}
 use Rattle.route_tree.specs.At.{tree_at}
 use Rattle.route_tree.specs.Place.{tree_at_place}
-use Rattle.route_tree.specs.Word.{Given, Word}
+use Rattle.route_tree.specs.Word.{Given, PlanWord}
 
 abbrev mutual
   -- the servers of a plain tree, in its order
@@ -76,4 +76,4 @@ ServersStay =
 abbrev pub TreeCallsStay : Type 0
 TreeCallsStay =
     (plain : Plan) (ask : Ask) (origin : Origin) (b : ℕ) (calls : List Call) (given : Given)
-    → Word plain ask origin b calls given → AreOn ask.key calls × Each (λ call. IsIn call.server (servers plain)) calls
+    → PlanWord plain ask origin b calls given → AreOn ask.key calls × Each (λ call. IsIn call.server (servers plain)) calls

@@ -11,7 +11,7 @@ use Rattle.mc_types.specs.declared.call.Origin.TheVariants.{Client, CopyOf}
 use Rattle.fresh_runs.specs.Calls.{Call}
 use Rattle.fresh_runs.specs.Cover.{IsAnswerOf}
 use Rattle.route_tree.specs.Plan.{Plan}
-use Rattle.route_tree.specs.Word.{Given, Word}
+use Rattle.route_tree.specs.Word.{Given, PlanWord}
 
 -- an ask that a client can write, but for the ranges of its numbers, which their types keep
 pub record IsFormed (ask : Ask) : Type 0 where
@@ -35,4 +35,4 @@ AreAsked dialect origin b before (call ∷ calls) =
 abbrev pub CallsAreAsked : Type 0
 CallsAreAsked =
     (plain : Plan) (ask : Ask) (calls : List Call) (given : Given)
-    → IsAsk ask → Word plain ask Client 0 calls given → AreAsked ask.dialect Client 0 [] calls
+    → IsAsk ask → PlanWord plain ask Client 0 calls given → AreAsked ask.dialect Client 0 [] calls

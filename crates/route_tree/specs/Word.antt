@@ -153,47 +153,47 @@ module _ (ask : Ask) (cold : ℕ → List Call → Given → Type 0) (warm : ℕ
 
 abbrev mutual
   -- the calls, from number b on, and what they give, are a word of the plain tree for the ask, whose data are of the origin
-  pub Word : Plan → Ask → Origin → ℕ → List Call → Given → Type 0
-  Word (Server s) ask origin b calls given =
+  pub PlanWord : Plan → Ask → Origin → ℕ → List Call → Given → Type 0
+  PlanWord (Server s) ask origin b calls given =
       (outcome : Outcome) × FitsOutcome ask outcome × (calls ≡ record { server = s; ask = ask; origin = origin; outcome = outcome } ∷ []) × (given ≡ given_by b outcome)
-  Word Null ask origin b calls given = GivesOnly (null_reply ask) b calls given
-  Word Failing ask origin b calls given = GivesOnly failing_reply b calls given
-  Word (AllSync ps) ask origin b calls given = (all : List Given) × WordOfAll ps ask origin b calls all × IsWorst rank all given
-  Word (Failover ps) ask origin b calls given = WordOfFirst ps 4 ask origin b calls given
-  Word (MissFailover ps) ask origin b calls given =
+  PlanWord Null ask origin b calls given = GivesOnly (null_reply ask) b calls given
+  PlanWord Failing ask origin b calls given = GivesOnly failing_reply b calls given
+  PlanWord (AllSync ps) ask origin b calls given = (all : List Given) × WordOfAll ps ask origin b calls all × IsWorst rank all given
+  PlanWord (Failover ps) ask origin b calls given = WordOfFirst ps 4 ask origin b calls given
+  PlanWord (MissFailover ps) ask origin b calls given =
       IfGet ask.op (WordOfFirst ps 1 ask origin b calls given) (WordOfHead ps ask origin b calls given)
-  Word (WarmUp cold warm exptime) ask origin b calls given =
+  PlanWord (WarmUp cold warm exptime) ask origin b calls given =
       IfGet ask.op
-      (WarmUpWord ask (Word cold ask origin) (Word warm (plain_get ask) origin) (λ hit w. Word cold (refill ask hit exptime) (CopyOf w)) b calls given)
-      (Word cold ask origin b calls given)
-  Word (ByOperation policies) ask origin b calls given = WordOfPolicy policies ask origin b calls given
+      (WarmUpWord ask (PlanWord cold ask origin) (PlanWord warm (plain_get ask) origin) (λ hit w. PlanWord cold (refill ask hit exptime) (CopyOf w)) b calls given)
+      (PlanWord cold ask origin b calls given)
+  PlanWord (ByOperation policies) ask origin b calls given = WordOfPolicy policies ask origin b calls given
 
   -- one stretch for each child, in order, and what each gives
   pub WordOfAll : Plans → Ask → Origin → ℕ → List Call → List Given → Type 0
   WordOfAll End ask origin b calls all = (calls ≡ []) × (all ≡ [])
   WordOfAll (More p ps) ask origin b calls all =
-      (front back : List Call) × (calls ≡ front ++ back) × (g : Given) × Word p ask origin b front g
+      (front back : List Call) × (calls ≡ front ++ back) × (g : Given) × PlanWord p ask origin b front g
       × (rest : List Given) × (all ≡ g ∷ rest) × WordOfAll ps ask origin (b + length front) back rest
 
   -- stretches for the first children, each but the last of them with a reply of the rank or a greater one; that last one's reply has a lower rank, or no child is left
   pub WordOfFirst : Plans → ℕ → Ask → Origin → ℕ → List Call → Given → Type 0
   WordOfFirst End limit ask origin b calls given = ⊥
   WordOfFirst (More p ps) limit ask origin b calls given =
-      (Word p ask origin b calls given × ((rank given < limit) ⊎ IsEnd ps))
-      ⊎ ((front back : List Call) × (calls ≡ front ++ back) × (g : Given) × Word p ask origin b front g
+      (PlanWord p ask origin b calls given × ((rank given < limit) ⊎ IsEnd ps))
+      ⊎ ((front back : List Call) × (calls ≡ front ++ back) × (g : Given) × PlanWord p ask origin b front g
       × (limit ≤ rank g) × WordOfFirst ps limit ask origin (b + length front) back given)
 
   -- the first child alone
   pub WordOfHead : Plans → Ask → Origin → ℕ → List Call → Given → Type 0
   WordOfHead End ask origin b calls given = ⊥
-  WordOfHead (More p ps) ask origin b calls given = Word p ask origin b calls given
+  WordOfHead (More p ps) ask origin b calls given = PlanWord p ask origin b calls given
 
   -- the child of the operation, else the default
   pub WordOfPolicy : PlanPolicies → Ask → Origin → ℕ → List Call → Given → Type 0
-  WordOfPolicy (Otherwise p) ask origin b calls given = Word p ask origin b calls given
+  WordOfPolicy (Otherwise p) ask origin b calls given = PlanWord p ask origin b calls given
   WordOfPolicy (Policy op p rest) ask origin b calls given =
-      MatchBool (same_op op ask.op) (Word p ask origin b calls given) (WordOfPolicy rest ask origin b calls given)
+      MatchBool (same_op op ask.op) (PlanWord p ask origin b calls given) (WordOfPolicy rest ask origin b calls given)
 
 -- the commands of a tree, which may be another for each number: those of the plain tree of the number and the key, for the asks that a client can write
 abbrev pub tree_words : (ℕ → List ℕ → Plan) → ℕ → Ask → List Call → Answer → Option ℕ → Type 0
-tree_words at number ask calls reply from = IsAsk ask × Word (at number ask.key) ask Client 0 calls (record { reply = reply; from = from })
+tree_words at number ask calls reply from = IsAsk ask × PlanWord (at number ask.key) ask Client 0 calls (record { reply = reply; from = from })

@@ -10,25 +10,25 @@ use Rattle.fresh_runs.specs.Calls.{Call}
 use Rattle.fresh_runs.specs.Single.{FitsOutcome, server_words}
 use Rattle.fresh_runs.specs.Cover.{ShowsWhatItFound}
 use Rattle.route_tree.specs.Each.{Each}
-use Rattle.route_tree.specs.Plan.{Plan, IsGood, IsPlan, Server, count}
-use Rattle.route_tree.specs.Word.{Given, Word, tree_words}
+use Rattle.route_tree.specs.Plan.{Plan, IsGoodPlan, IsPlan, Server, plan_count}
+use Rattle.route_tree.specs.Word.{Given, PlanWord, tree_words}
 
 -- for an operation other than get each call passes on the very ask, with data of the same origin
 abbrev pub AskIsPassedOn : Type 0
 AskIsPassedOn =
     (plain : Plan) (ask : Ask) (origin : Origin) (b : ℕ) (calls : List Call) (given : Given)
-    → ask.op ≢ Get → Word plain ask origin b calls given → Each (λ call. (call.ask ≡ ask) × (call.origin ≡ origin)) calls
+    → ask.op ≢ Get → PlanWord plain ask origin b calls given → Each (λ call. (call.ask ≡ ask) × (call.origin ≡ origin)) calls
 
 -- a delete asks servers for nothing but deletes
 abbrev pub DeletesAskDeletes : Type 0
 DeletesAskDeletes =
     (plain : Plan) (ask : Ask) (origin : Origin) (b : ℕ) (calls : List Call) (given : Given)
-    → ask.op ≡ Delete → Word plain ask origin b calls given → Each (λ call. call.ask.op ≡ Delete) calls
+    → ask.op ≡ Delete → PlanWord plain ask origin b calls given → Each (λ call. call.ask.op ≡ Delete) calls
 
 -- each plain tree without empty lists has a word for each ask
 abbrev pub EachAskHasAWord : Type 0
 EachAskHasAWord =
-    (plain : Plan) (ask : Ask) (origin : Origin) (b : ℕ) → IsGood plain → (calls : List Call) × (given : Given) × Word plain ask origin b calls given
+    (plain : Plan) (ask : Ask) (origin : Origin) (b : ℕ) → IsGoodPlan plain → (calls : List Call) × (given : Given) × PlanWord plain ask origin b calls given
 
 -- the call with another outcome
 abbrev pub ended : Call → Outcome → Call
@@ -38,14 +38,14 @@ ended call outcome = record { server = call.server; ask = call.ask; origin = cal
 abbrev pub EachOutcomeGoesOn : Type 0
 EachOutcomeGoesOn =
     (plain : Plan) (ask : Ask) (origin : Origin) (b : ℕ) (front : List Call) (call : Call) (back : List Call) (given : Given) (outcome : Outcome)
-    → IsGood plain → Word plain ask origin b (front ++ call ∷ back) given → FitsOutcome call.ask outcome
-    → (rest : List Call) × (other : Given) × Word plain ask origin b (front ++ ended call outcome ∷ rest) other
+    → IsGoodPlan plain → PlanWord plain ask origin b (front ++ call ∷ back) given → FitsOutcome call.ask outcome
+    → (rest : List Call) × (other : Given) × PlanWord plain ask origin b (front ++ ended call outcome ∷ rest) other
 
 -- a word has at most as many calls as its plain tree has routes, each counted three times for every cold that it stands in
 abbrev pub CallsAreWithin : Type 0
 CallsAreWithin =
     (plain : Plan) (ask : Ask) (origin : Origin) (b : ℕ) (calls : List Call) (given : Given)
-    → Word plain ask origin b calls given → (length calls ≤ count plain) × (IsPlan plain → length calls ≤ ROUTE_LIMIT)
+    → PlanWord plain ask origin b calls given → (length calls ≤ plan_count plain) × (IsPlan plain → length calls ≤ ROUTE_LIMIT)
 
 -- each reply shows no part of an item, or is the answer of the call that it names
 abbrev pub RepliesShowWhatWasFound : Type 0

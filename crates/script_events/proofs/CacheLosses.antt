@@ -5,7 +5,7 @@ use Rattle.mc_types.specs.Items.{Item}
 use Rattle.fresh_runs.specs.Run.{Event, Turns, Restarts, after_event}
 use Rattle.cache_server.specs.Contents.{Contents, losing, restarted}
 use Rattle.cache_server.specs.Held.{holds, IsLoss}
-use Rattle.script_events.specs.Caches.{loss_event, cache_held, plain_for, event_server, changed_at, after_loss, lost_in}
+use Rattle.script_events.specs.Caches.{loss_event, cache_held, cache_left_by, event_server, changed_at, after_loss, lost_in}
 use Rattle.script_events.specs.declared.servers.event.Loss.{Loss}
 use Rattle.script_events.specs.declared.servers.event.Loss.TheVariants.{Item as LostItem, Restart}
 use Rattle.script_events.proofs.Places.{held_here, held_else, by_server, loses_at, same}
@@ -73,7 +73,7 @@ all_held caches server place loss y is at lt none s k =
     all_lost caches place y lt none s k ∙ ap (λ p. after_event (Restarts p) (cache_held caches) s k) at ∙ ap (λ l. after_event (loss_event l) (cache_held caches) s k) (sym is)
 
 place_beyond : (caches : List Contents) (loss : Loss) → length caches ≤ event_server (loss_event loss) → caches ≡ after_loss (loss_event loss) caches
-place_beyond caches loss le = changed_beyond (plain_for (loss_event loss)) caches (event_server (loss_event loss)) le
+place_beyond caches loss le = changed_beyond (cache_left_by (loss_event loss)) caches (event_server (loss_event loss)) le
 
 pub beyond_contents : (caches : List Contents) (place : ℕ) (loss l : Loss) → loss ≡ l → place ≡ event_server (loss_event l) → length caches ≤ place → caches ≡ after_loss (loss_event loss) caches
 beyond_contents caches place loss l is at le = place_beyond caches l (subst (λ p. length caches ≤ p) at le) ∙ ap (λ m. after_loss (loss_event m) caches) (sym is)
@@ -88,4 +88,4 @@ changed_len (suc s) f (c ∷ caches) = ap suc (changed_len s f caches)
 
 pub lost_len : (losses : List Event) (caches : List Contents) → length (lost_in losses caches) ≡ length caches
 lost_len [] caches = refl
-lost_len (loss ∷ losses) caches = lost_len losses (after_loss loss caches) ∙ changed_len (event_server loss) (plain_for loss) caches
+lost_len (loss ∷ losses) caches = lost_len losses (after_loss loss caches) ∙ changed_len (event_server loss) (cache_left_by loss) caches

@@ -27,10 +27,10 @@ cache_held (c ∷ caches) zero k = cache.holds c k
 cache_held (c ∷ caches) (suc s) k = cache_held caches s k
 
 -- what a loss leaves of the cache of its server
-abbrev pub plain_for : Event → Contents → Contents
-plain_for (Turns server key turned) c = losing c key
-plain_for (Restarts server) c = restarted c
-plain_for _ c = c
+abbrev pub cache_left_by : Event → Contents → Contents
+cache_left_by (Turns server key turned) c = losing c key
+cache_left_by (Restarts server) c = restarted c
+cache_left_by _ c = c
 
 -- the server of a loss
 abbrev pub event_server : Event → ℕ
@@ -46,7 +46,7 @@ changed_at (suc s) change (c ∷ caches) = c ∷ changed_at s change caches
 
 -- what a loss leaves of the caches
 abbrev pub after_loss : Event → List Contents → List Contents
-after_loss loss caches = changed_at (event_server loss) (plain_for loss) caches
+after_loss loss caches = changed_at (event_server loss) (cache_left_by loss) caches
 
 -- what losses leave of the caches, the first loss first
 abbrev pub lost_in : List Event → List Contents → List Contents

@@ -22,12 +22,12 @@ use Rattle.core_proxy.proofs.CallsStay.{none_out}
 use Rattle.core_accepted.specs.declared.served.ServedCore.{ServedCore}
 use Rattle.core_accepted.specs.declared.tally.CoreTally.{CoreTally}
 use Rattle.core_accepted.specs.Results.{CountsResult, SettleStops, IsSettled}
-use Rattle.core_accepted.specs.Tallies.{ReplyKind, TellsError, ShowsItem, Acknowledges, TellsOther, reply_kind, one_more, more_at, lost_unless, lost_at, with_reply, with_note, with_poll, with_call, with_outcome, with_client, with_refusal, AddsPlaces, MakesPlaces, nothing_done, of_server}
+use Rattle.core_accepted.specs.Tallies.{ReplyKind, TellsError, ShowsItem, Acknowledges, TellsOther, reply_kind, one_more, more_at, lost_unless, unplaced_at, with_reply, with_note, with_poll, with_call, with_outcome, with_client, with_refusal, AddsPlaces, MakesPlaces, nothing_done, of_server}
 use Rattle.serve_links.specs.CoreSteps.{Step, Opened, NotOpened, Fed, Polled, Stopped, Settled, Gave, Closed, LeftLine, Loaded, Spelled, Does, Walks}
 use Rattle.serve_links.specs.Called.{call_in, TellsCallsOut}
 use Rattle.serve_links.specs.Talks.{MayComeNext, IsOrderly}
 use Rattle.serve_links.specs.Counts.{number_of, counted, answers_one, fails_one}
-use Rattle.serve_links.specs.ByServer.{calls_at, is_at, settles_at, settled_at, IsCountedAt, AreCountedByServer, StepsAreCountedByServer}
+use Rattle.serve_links.specs.ByServer.{calls_server, is_at, settles_at, settled_at, IsCountedAt, AreCountedByServer, StepsAreCountedByServer}
 use Rattle.serve_links.proofs.Called.{walks_tell_calls}
 use Rattle.serve_links.proofs.Counts.{at_place, tally_same, stopped_same, not_none}
 
@@ -38,7 +38,7 @@ never_lost : (n : ℕ) → one_more n ≡ 0 → ⊥
 never_lost n e = omega (arith, e)
 
 -- where none was counted at no place, this one has a place, and none was before
-has_place : (place : ℕ) (counts : List ℕ) (n : ℕ) → lost_at place counts n ≡ 0 → (place < length counts) × (n ≡ 0)
+has_place : (place : ℕ) (counts : List ℕ) (n : ℕ) → unplaced_at place counts n ≡ 0 → (place < length counts) × (n ≡ 0)
 has_place place counts n none = by (nat_lt place (length counts)) refl none
   where
     by : (b : Bool) → nat_lt place (length counts) ≡ b → lost_unless b n ≡ 0 → (place < length counts) × (n ≡ 0)
@@ -62,11 +62,11 @@ added : (old new : List ℕ) (place : ℕ) → AddsPlaces old new → slice_inde
 added old new place adds = ap (λ l. slice_index l place) adds.1 ∙ count_kept old adds.0 place
 
 -- servers got places
-made : (step : Step) (past : List Step) (old new : CoreTally) → ((server : ℕ) → calls_at server step ≡ false) → ((is : Step → Bool) (server : ℕ) → settles_at is server step past ≡ false) → MakesPlaces old new → AreCountedByServer past old → AreCountedByServer (step ∷ past) new
+made : (step : Step) (past : List Step) (old new : CoreTally) → ((server : ℕ) → calls_server server step ≡ false) → ((is : Step → Bool) (server : ℕ) → settles_at is server step past ≡ false) → MakesPlaces old new → AreCountedByServer past old → AreCountedByServer (step ∷ past) new
 made step past old new none_called none_settled makes was = λ none server.
     let is = was (sym (ap (λ (t : CoreTally). t.unplaced) makes.rest) ∙ none) server in
     record {
-      calls = added old.calls_at new.calls_at server makes.calls ∙ is.calls ∙ sym (ap (λ b. counted (if b then number_of (calls_at server) past + 1 else number_of (calls_at server) past)) (none_called server));
+      calls = added old.calls_at new.calls_at server makes.calls ∙ is.calls ∙ sym (ap (λ b. counted (if b then number_of (calls_server server) past + 1 else number_of (calls_server server) past)) (none_called server));
       answered = added old.answered_at new.answered_at server makes.answered ∙ is.answered ∙ sym (ap (λ b. counted (if b then settled_at answers_one server past + 1 else settled_at answers_one server past)) (none_settled answers_one server));
       failed = added old.failed_at new.failed_at server makes.failed ∙ is.failed ∙ sym (ap (λ b. counted (if b then settled_at fails_one server past + 1 else settled_at fails_one server past)) (none_settled fails_one server));
     }
@@ -85,12 +85,12 @@ same_tally old = record { calls = refl; answered = refl; failed = refl; unplaced
 
 -- of a step by which no call is given out or settled
 kept :
-    (step : Step) (past : List Step) (old new : CoreTally) → ((server : ℕ) → calls_at server step ≡ false) → ((is : Step → Bool) (server : ℕ) → settles_at is server step past ≡ false) → IsSameByServer old new
+    (step : Step) (past : List Step) (old new : CoreTally) → ((server : ℕ) → calls_server server step ≡ false) → ((is : Step → Bool) (server : ℕ) → settles_at is server step past ≡ false) → IsSameByServer old new
     → AreCountedByServer past old → AreCountedByServer (step ∷ past) new
 kept step past old new none_called none_settled same was = λ none server.
     let is = was (sym same.unplaced ∙ none) server in
     record {
-      calls = ap (λ l. slice_index l server) same.calls ∙ is.calls ∙ sym (ap (λ b. counted (if b then number_of (calls_at server) past + 1 else number_of (calls_at server) past)) (none_called server));
+      calls = ap (λ l. slice_index l server) same.calls ∙ is.calls ∙ sym (ap (λ b. counted (if b then number_of (calls_server server) past + 1 else number_of (calls_server server) past)) (none_called server));
       answered = ap (λ l. slice_index l server) same.answered ∙ is.answered ∙ sym (ap (λ b. counted (if b then settled_at answers_one server past + 1 else settled_at answers_one server past)) (none_settled answers_one server));
       failed = ap (λ l. slice_index l server) same.failed ∙ is.failed ∙ sym (ap (λ b. counted (if b then settled_at fails_one server past + 1 else settled_at fails_one server past)) (none_settled fails_one server));
     }
@@ -113,7 +113,7 @@ called_out client ticket past old new is was = subst (AreCountedByServer (Polled
     let place = has_place ticket.server old.calls_at old.unplaced none in
     let was_at = was place.1 server in
     record {
-      calls = at_place old.calls_at ticket.server server (number_of (calls_at server) past) (nat_eq ticket.server server) refl place.0 was_at.calls;
+      calls = at_place old.calls_at ticket.server server (number_of (calls_server server) past) (nat_eq ticket.server server) refl place.0 was_at.calls;
       answered = was_at.answered;
       failed = was_at.failed;
     })

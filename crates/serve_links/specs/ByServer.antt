@@ -12,9 +12,9 @@ use Rattle.serve_links.specs.Talks.{IsOrderly}
 use Rattle.serve_links.specs.Counts.{number_of, counted, answers_one, fails_one}
 
 -- whether a call of this server was given out by a step
-abbrev pub calls_at : (server : ℕ) → Step → Bool
-calls_at server (Polled client (polls.Call ticket)) = nat_eq ticket.server server
-calls_at server step = false
+abbrev pub calls_server : (server : ℕ) → Step → Bool
+calls_server server (Polled client (polls.Call ticket)) = nat_eq ticket.server server
+calls_server server step = false
 
 -- whether this call is one of this server
 abbrev pub is_at : (server : ℕ) → Option (ℕ × Ask) → Bool
@@ -33,7 +33,7 @@ settled_at is server (step ∷ past) = if settles_at is server step past then se
 
 -- by how many of these steps a call of this server was given out is counted, and by how many one of them was answered, and has failed
 pub record IsCountedAt (server : ℕ) (steps : List Step) (tally : ServerTally) : Type 0 where
-  pub calls : tally.calls ≡ counted (number_of (calls_at server) steps)
+  pub calls : tally.calls ≡ counted (number_of (calls_server server) steps)
   pub answered : tally.answered ≡ counted (settled_at answers_one server steps)
   pub failed : tally.failed ≡ counted (settled_at fails_one server steps)
 

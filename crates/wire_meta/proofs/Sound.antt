@@ -28,7 +28,7 @@ use Rattle.wire_meta.specs.declared.command.MetaCommand.TheVariants as commands
 use Rattle.wire_meta.specs.declared.command.MetaRequest.{MetaRequest}
 use Rattle.wire_meta.specs.declared.command.Verb.{Verb}
 use Rattle.wire_meta.specs.declared.command.Verb.TheVariants.{Keyed, Noop}
-use Rattle.wire_meta.specs.CommandWords.{verb_of}
+use Rattle.wire_meta.specs.CommandWords.{meta_verb_of}
 use Rattle.wire_meta.specs.Flags.{flag_letter, flag_text, or_else, says, read_in, values_of, tokens_in, store_mode, count_mode, mode_of, flags_of}
 use Rattle.wire_meta.specs.Order.{MetaOrder, Asking, OfItself, asking, meta_storing, noop, mixes, comparing, meta_ordered_by, meta_order_of}
 use Rattle.wire_meta.specs.Places.{meta_order_in, flags_in, MetaLiesIn}
@@ -100,7 +100,7 @@ by_verb (Some Noop) ws o h = by_noop ws o h
 
 pub sound : (ws : List Word) (o : MetaOrder) → meta_order_of ws ≡ Ok o → IsSound o
 sound [] o h = absurd cc
-sound (w ∷ ws) o h = by_verb (verb_of w) ws o h
+sound (w ∷ ws) o h = by_verb (meta_verb_of w) ws o h
 
 block_short : (o : MetaOrder) (n : ℕ) → IsSound o → meta_block_len o ≡ Some n → n ≤ data_limit
 block_short (Asking kind key len flags) n h e = subst IsShort e h.short

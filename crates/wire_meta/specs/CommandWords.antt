@@ -22,5 +22,5 @@ meta_found_in [] word = None
 meta_found_in (entry ∷ entries) word = if bytes_eq word entry.0 then Some entry.1 else meta_found_in entries word
 
 -- what a command word means
-abbrev pub verb_of : Word → Option Verb
-verb_of word = meta_found_in meta_words word
+abbrev pub meta_verb_of : Word → Option Verb
+meta_verb_of word = meta_found_in meta_words word

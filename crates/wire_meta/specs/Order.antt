@@ -14,7 +14,7 @@ use Rattle.wire_meta.specs.declared.command.Kind.TheVariants.{Get, Store, Delete
 use Rattle.wire_meta.specs.declared.command.Verb.{Verb}
 use Rattle.wire_meta.specs.declared.command.Verb.TheVariants.{Keyed, Noop}
 use Rattle.wire_meta.specs.declared.command.Values.{Values}
-use Rattle.wire_meta.specs.CommandWords.{verb_of}
+use Rattle.wire_meta.specs.CommandWords.{meta_verb_of}
 use Rattle.wire_meta.specs.Flags.{flags_of, values_of, is_some}
 
 -- what a request line asks: of a key, with the length of the data of `ms`, and the flags as they stand there; or of mcgate itself
@@ -71,7 +71,7 @@ meta_ordered_by (Some Noop) words = noop words
 -- what the words of a line ask, or the first test that they fail
 abbrev pub meta_order_of : List Word → Result MetaOrder RefusalReason
 meta_order_of [] = Err Unknown
-meta_order_of (word ∷ words) = meta_ordered_by (verb_of word) words
+meta_order_of (word ∷ words) = meta_ordered_by (meta_verb_of word) words
 
 -- the command with a data block
 abbrev pub has_meta_block : Option Verb → Bool
@@ -81,4 +81,4 @@ has_meta_block _ = false
 -- what is passed over after a refused line: the data that the third word of `ms` tells of
 abbrev pub meta_skip_of : List Word → Skip
 meta_skip_of [] = Nothing
-meta_skip_of (word ∷ words) = if has_meta_block (verb_of word) then skip_length (length_in (slice_get words 1)) else Nothing
+meta_skip_of (word ∷ words) = if has_meta_block (meta_verb_of word) then skip_length (length_in (slice_get words 1)) else Nothing

@@ -2,7 +2,7 @@
 ghost use Rattle.std.specs.Prelude.{◌≡◌, ◌≤◌, length, drop, IfOk};
 ghost use Rattle.text_words.specs.Word.{words, text_at, IsNextWord};
 ghost use Rattle.wire_parts.specs.Places.{Gives};
-ghost use Rattle.wire_meta.specs.CommandWords.{verb_of};
+ghost use Rattle.wire_meta.specs.CommandWords.{meta_verb_of};
 ghost use Rattle.wire_meta.specs.Order.{meta_order_of, meta_ordered_by, asking, meta_storing, noop, sets, mixes, has_meta_block, meta_skip_of};
 ghost use Rattle.wire_meta.specs.Places.{MetaLiesIn, meta_order_in};
 
@@ -105,7 +105,7 @@ pub(crate) fn command(
     verb: Option<Verb>,
 ) -> Result<MetaCommand, RefusalReason>
     requires first { IsNextWord line.now 0 first }
-    requires verb { verb ≡ verb_of (text_at line.now first) }
+    requires verb { verb ≡ meta_verb_of (text_at line.now first) }
     ensures order { Gives (meta_order_in line.now) result (meta_order_of (words line.now)) }
     ensures within { IfOk result (MetaLiesIn line.now) }
 {
@@ -124,7 +124,7 @@ fn stores(verb: Option<Verb>) -> bool
 /// What is passed over after such a line, if it is refused: the data that the third word of `ms` tells of.
 pub(crate) fn skip(line: &[u8], first: Span, verb: Option<Verb>) -> Skip
     requires first { IsNextWord line.now 0 first }
-    requires verb { verb ≡ verb_of (text_at line.now first) }
+    requires verb { verb ≡ meta_verb_of (text_at line.now first) }
     ensures { result ≡ meta_skip_of (words line.now) }
 {
     if !stores(verb) {

@@ -16,7 +16,7 @@ use Rattle.wire_meta.specs.Order as metas
 use Rattle.wire_meta.specs.Grammar.{meta_grammar}
 use Rattle.wire_meta.specs.Message as meta_messages
 use Rattle.wire_meta.specs.declared.command.Verb.{Verb}
-use Rattle.wire_meta.specs.CommandWords.{verb_of}
+use Rattle.wire_meta.specs.CommandWords.{meta_verb_of}
 use Rattle.wire_stream.specs.Both.{AnyOrder, Classic, Meta, both_grammar, order_by, order_of, skip_by, skip_of}
 use Rattle.wire_stream.specs.Message.{Begins}
 use Rattle.wire_stream.proofs.Lifting.{classic_lifted, meta_lifted}
@@ -92,7 +92,7 @@ by_verb (Some v) line used rest o block n e = absurd (never Meta Classic not_met
 
 classic_line : (line : List Word) (used : ℕ) (rest : List ℕ) (o : texts.Order) (block : List ℕ) (n : ℕ) → among_both line used rest ≡ Some (Served (Classic o) block, n) → in_classic line used rest ≡ Some (Served o block, n)
 classic_line [] used rest o block n e = absurd (refused_never Unknown (skip_of []) used (Classic o) block n e)
-classic_line (word ∷ words) used rest o block n e = by_verb (verb_of word) (word ∷ words) used rest o block n e
+classic_line (word ∷ words) used rest o block n e = by_verb (meta_verb_of word) (word ∷ words) used rest o block n e
 
 by_meta_verb : (v : Option Verb) (line : List Word) (used : ℕ) (rest : List ℕ) (o : metas.MetaOrder) (block : List ℕ) (n : ℕ) → meaning_of both_grammar (order_by v line) (skip_by v line) used rest ≡ Some (Served (Meta o) block, n) → in_meta line used rest ≡ Some (Served o block, n)
 by_meta_verb None line used rest o block n e = absurd (never Classic Meta not_classic (in_classic line used rest) o block n (sym (classic_lifted (texts.classic_order_of line) (texts.classic_skip_of line) used rest) ∙ e))
@@ -100,7 +100,7 @@ by_meta_verb (Some v) line used rest o block n e = found_lowered Meta same_meta 
 
 meta_line : (line : List Word) (used : ℕ) (rest : List ℕ) (o : metas.MetaOrder) (block : List ℕ) (n : ℕ) → among_both line used rest ≡ Some (Served (Meta o) block, n) → in_meta line used rest ≡ Some (Served o block, n)
 meta_line [] used rest o block n e = absurd (refused_never Unknown (skip_of []) used (Meta o) block n e)
-meta_line (word ∷ words) used rest o block n e = by_meta_verb (verb_of word) (word ∷ words) used rest o block n e
+meta_line (word ∷ words) used rest o block n e = by_meta_verb (meta_verb_of word) (word ∷ words) used rest o block n e
 
 -- a request of both is one of its dialect
 pub classic_begins : (bytes : List ℕ) (o : texts.Order) (block : List ℕ) (used : ℕ) → Begins bytes (Served (Classic o) block) used → text_messages.BeginsClassic bytes (Served o block) used
@@ -116,15 +116,15 @@ unknown line word ws used rest o block n is none e =
     let same : in_classic line used rest ≡ Some (Refusal Unknown (texts.classic_skip_of line), used) = ap (λ (r : Result texts.Order RefusalReason). meaning_of classic_grammar r (texts.classic_skip_of line) used rest) refused in
     refused_never Unknown (texts.classic_skip_of line) used o block n (sym same ∙ e)
 
-raised_by : (v : Option Verb) (word : Word) (ws : List Word) (used : ℕ) (rest : List ℕ) (o : texts.Order) (block : List ℕ) (n : ℕ) → verb_of word ≡ v → in_classic (word ∷ ws) used rest ≡ Some (Served o block, n) → meaning_of both_grammar (order_by v (word ∷ ws)) (skip_by v (word ∷ ws)) used rest ≡ Some (Served (Classic o) block, n)
+raised_by : (v : Option Verb) (word : Word) (ws : List Word) (used : ℕ) (rest : List ℕ) (o : texts.Order) (block : List ℕ) (n : ℕ) → meta_verb_of word ≡ v → in_classic (word ∷ ws) used rest ≡ Some (Served o block, n) → meaning_of both_grammar (order_by v (word ∷ ws)) (skip_by v (word ∷ ws)) used rest ≡ Some (Served (Classic o) block, n)
 raised_by None word ws used rest o block n is e = classic_lifted (texts.classic_order_of (word ∷ ws)) (texts.classic_skip_of (word ∷ ws)) used rest ∙ ap (lift_found Classic) e
 raised_by (Some v) word ws used rest o block n is e = absurd (unknown (word ∷ ws) word ws used rest o block n refl (none_of_two word (meta_length word v is)) e)
 
 classic_among : (line : List Word) (used : ℕ) (rest : List ℕ) (o : texts.Order) (block : List ℕ) (n : ℕ) → in_classic line used rest ≡ Some (Served o block, n) → among_both line used rest ≡ Some (Served (Classic o) block, n)
 classic_among [] used rest o block n e = absurd (refused_never Unknown (texts.classic_skip_of []) used o block n e)
-classic_among (word ∷ ws) used rest o block n e = raised_by (verb_of word) word ws used rest o block n refl e
+classic_among (word ∷ ws) used rest o block n e = raised_by (meta_verb_of word) word ws used rest o block n refl e
 
-meta_raised_by : (v : Option Verb) (word : Word) (ws : List Word) (used : ℕ) (rest : List ℕ) (o : metas.MetaOrder) (block : List ℕ) (n : ℕ) → verb_of word ≡ v → in_meta (word ∷ ws) used rest ≡ Some (Served o block, n) → meaning_of both_grammar (order_by v (word ∷ ws)) (skip_by v (word ∷ ws)) used rest ≡ Some (Served (Meta o) block, n)
+meta_raised_by : (v : Option Verb) (word : Word) (ws : List Word) (used : ℕ) (rest : List ℕ) (o : metas.MetaOrder) (block : List ℕ) (n : ℕ) → meta_verb_of word ≡ v → in_meta (word ∷ ws) used rest ≡ Some (Served o block, n) → meaning_of both_grammar (order_by v (word ∷ ws)) (skip_by v (word ∷ ws)) used rest ≡ Some (Served (Meta o) block, n)
 meta_raised_by None word ws used rest o block n is e =
     let refused : metas.meta_order_of (word ∷ ws) ≡ Err Unknown = rw is refl in
     let same : in_meta (word ∷ ws) used rest ≡ Some (Refusal Unknown (metas.meta_skip_of (word ∷ ws)), used) = ap (λ (r : Result metas.MetaOrder RefusalReason). meaning_of meta_grammar r (metas.meta_skip_of (word ∷ ws)) used rest) refused in
@@ -133,7 +133,7 @@ meta_raised_by (Some v) word ws used rest o block n is e = meta_lifted (metas.me
 
 meta_among : (line : List Word) (used : ℕ) (rest : List ℕ) (o : metas.MetaOrder) (block : List ℕ) (n : ℕ) → in_meta line used rest ≡ Some (Served o block, n) → among_both line used rest ≡ Some (Served (Meta o) block, n)
 meta_among [] used rest o block n e = absurd (refused_never Unknown (metas.meta_skip_of []) used o block n e)
-meta_among (word ∷ ws) used rest o block n e = meta_raised_by (verb_of word) word ws used rest o block n refl e
+meta_among (word ∷ ws) used rest o block n e = meta_raised_by (meta_verb_of word) word ws used rest o block n refl e
 
 -- a request of a dialect is one of both
 pub begins_classic : (bytes : List ℕ) (o : texts.Order) (block : List ℕ) (used : ℕ) → text_messages.BeginsClassic bytes (Served o block) used → Begins bytes (Served (Classic o) block) used

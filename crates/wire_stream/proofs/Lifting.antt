@@ -16,7 +16,7 @@ use Rattle.wire_classic.specs.Grammar.{classic_grammar}
 use Rattle.wire_meta.specs.Order as metas
 use Rattle.wire_meta.specs.Grammar.{meta_grammar}
 use Rattle.wire_meta.specs.declared.command.Verb.{Verb}
-use Rattle.wire_meta.specs.CommandWords.{verb_of}
+use Rattle.wire_meta.specs.CommandWords.{meta_verb_of}
 use Rattle.wire_stream.specs.declared.requests.reader.Read.{Read}
 use Rattle.wire_stream.specs.declared.requests.reader.Read.TheVariants as reads
 use Rattle.wire_stream.specs.Both.{AnyOrder, Classic, Meta, both_grammar, order_by, order_of, skip_by, skip_of, mapped}
@@ -32,22 +32,22 @@ pub meta_lifted : (r : Result metas.MetaOrder RefusalReason) (skip : Skip) (used
 meta_lifted (Err why) skip used rest = refl
 meta_lifted (Ok o) skip used rest = rest_lifted Meta o used rest _
 
-classic_by : (line : List Word) (word : Word) (ws : List Word) (used : ℕ) (rest : List ℕ) → line ≡ word ∷ ws → verb_of word ≡ None → meaning_of both_grammar (both_grammar.order_of line) (both_grammar.skip_of line) used rest ≡ lift_found Classic (meaning_of classic_grammar (classic_grammar.order_of line) (classic_grammar.skip_of line) used rest)
+classic_by : (line : List Word) (word : Word) (ws : List Word) (used : ℕ) (rest : List ℕ) → line ≡ word ∷ ws → meta_verb_of word ≡ None → meaning_of both_grammar (both_grammar.order_of line) (both_grammar.skip_of line) used rest ≡ lift_found Classic (meaning_of classic_grammar (classic_grammar.order_of line) (classic_grammar.skip_of line) used rest)
 classic_by line word ws used rest is none = rw (is, none) (classic_lifted (texts.classic_order_of (word ∷ ws)) (texts.classic_skip_of (word ∷ ws)) used rest)
 
 -- a line whose first word is no classic command means what it means in the meta dialect: a word that is no command is refused alike
-order_meta : (o : Option Verb) (word : Word) (ws : List Word) → verb_of word ≡ o → text_words.verb_of word ≡ None → order_by o (word ∷ ws) ≡ mapped Meta (metas.meta_order_of (word ∷ ws))
+order_meta : (o : Option Verb) (word : Word) (ws : List Word) → meta_verb_of word ≡ o → text_words.verb_of word ≡ None → order_by o (word ∷ ws) ≡ mapped Meta (metas.meta_order_of (word ∷ ws))
 order_meta None word ws is none = rw (is, none) refl
 order_meta (Some v) word ws is none = refl
 
-skip_meta : (o : Option Verb) (word : Word) (ws : List Word) → verb_of word ≡ o → text_words.verb_of word ≡ None → skip_by o (word ∷ ws) ≡ metas.meta_skip_of (word ∷ ws)
+skip_meta : (o : Option Verb) (word : Word) (ws : List Word) → meta_verb_of word ≡ o → text_words.verb_of word ≡ None → skip_by o (word ∷ ws) ≡ metas.meta_skip_of (word ∷ ws)
 skip_meta None word ws is none = rw (is, none) refl
 skip_meta (Some v) word ws is none = refl
 
 meta_by : (line : List Word) (word : Word) (ws : List Word) (used : ℕ) (rest : List ℕ) → line ≡ word ∷ ws → text_words.verb_of word ≡ None → meaning_of both_grammar (both_grammar.order_of line) (both_grammar.skip_of line) used rest ≡ lift_found Meta (meaning_of meta_grammar (meta_grammar.order_of line) (meta_grammar.skip_of line) used rest)
 meta_by line word ws used rest is none =
-    let order : order_of line ≡ mapped Meta (metas.meta_order_of line) = ap order_of is ∙ order_meta (verb_of word) word ws refl none ∙ ap (λ (l : List Word). mapped Meta (metas.meta_order_of l)) (sym is) in
-    let skip : skip_of line ≡ metas.meta_skip_of line = ap skip_of is ∙ skip_meta (verb_of word) word ws refl none ∙ ap (λ (l : List Word). metas.meta_skip_of l) (sym is) in
+    let order : order_of line ≡ mapped Meta (metas.meta_order_of line) = ap order_of is ∙ order_meta (meta_verb_of word) word ws refl none ∙ ap (λ (l : List Word). mapped Meta (metas.meta_order_of l)) (sym is) in
+    let skip : skip_of line ≡ metas.meta_skip_of line = ap skip_of is ∙ skip_meta (meta_verb_of word) word ws refl none ∙ ap (λ (l : List Word). metas.meta_skip_of l) (sym is) in
     ap (λ (r : Result AnyOrder RefusalReason). meaning_of both_grammar r (skip_of line) used rest) order ∙ ap (λ (k : Skip). meaning_of both_grammar (mapped Meta (metas.meta_order_of line)) k used rest) skip ∙ meta_lifted (metas.meta_order_of line) (metas.meta_skip_of line) used rest
 
 -- the first word of a line that was taken
@@ -55,7 +55,7 @@ module _ (bytes : List ℕ) (end used : ℕ) (line : TakesLine bytes end used) w
   line_words : (first : Span) → IsNextWord (take end bytes) 0 first → words (without_cr (take (used - 1) bytes)) ≡ text_at (take end bytes) first ∷ words (drop first.end (take end bytes))
   line_words first h = ap words (line_text bytes end used line).0 ∙ h.first
 
-  pub means_classic : (first : Span) → IsNextWord (take end bytes) 0 first → verb_of (text_at (take end bytes) first) ≡ None → meaning both_grammar (take (used - 1) bytes) (drop used bytes) ≡ lift_found Classic (meaning classic_grammar (take (used - 1) bytes) (drop used bytes))
+  pub means_classic : (first : Span) → IsNextWord (take end bytes) 0 first → meta_verb_of (text_at (take end bytes) first) ≡ None → meaning both_grammar (take (used - 1) bytes) (drop used bytes) ≡ lift_found Classic (meaning classic_grammar (take (used - 1) bytes) (drop used bytes))
   means_classic first h none = classic_by _ (text_at (take end bytes) first) (words (drop first.end (take end bytes))) (length (take (used - 1) bytes) + 1) (drop used bytes) (line_words first h) none
 
   pub means_meta : (first : Span) → IsNextWord (take end bytes) 0 first → text_words.verb_of (text_at (take end bytes) first) ≡ None → meaning both_grammar (take (used - 1) bytes) (drop used bytes) ≡ lift_found Meta (meaning meta_grammar (take (used - 1) bytes) (drop used bytes))

@@ -6,7 +6,7 @@ use Rattle.std.proofs.lemmas.Bool.{and_parts, eqb-true}
 use Rattle.std.proofs.lemmas.Slice.Eq.{bytes_eq-Decides}
 use Rattle.wire_parts.specs.Tests.{Word}
 use Rattle.wire_meta.specs.declared.command.Verb.{Verb}
-use Rattle.wire_meta.specs.CommandWords.{meta_found_in, meta_words, verb_of}
+use Rattle.wire_meta.specs.CommandWords.{meta_found_in, meta_words, meta_verb_of}
 
 two_letters : (entries : List (Word × Verb)) (word : Word) (v : Verb) → list_all (λ e. eqb (length e.0) 2) entries ≡ true → meta_found_in entries word ≡ Some v → length word ≡ 2
 two_letters [] word v all e = absurd cc
@@ -18,5 +18,5 @@ two_letters (entry ∷ entries) word v all e =
     ]) refl
 
 -- a meta command has two letters
-pub meta_length : (word : Word) (v : Verb) → verb_of word ≡ Some v → length word ≡ 2
+pub meta_length : (word : Word) (v : Verb) → meta_verb_of word ≡ Some v → length word ≡ 2
 meta_length word v e = two_letters meta_words word v refl e

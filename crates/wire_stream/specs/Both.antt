@@ -12,7 +12,7 @@ use Rattle.wire_classic.specs.Grammar as text_lines
 use Rattle.wire_meta.specs.Order as metas
 use Rattle.wire_meta.specs.Grammar as meta_lines
 use Rattle.wire_meta.specs.declared.command.Verb.{Verb}
-use Rattle.wire_meta.specs.CommandWords.{verb_of}
+use Rattle.wire_meta.specs.CommandWords.{meta_verb_of}
 
 -- what a line asks, in its dialect
 pub data AnyOrder : Type 0 where
@@ -30,7 +30,7 @@ order_by (Some verb) line = mapped Meta (metas.meta_order_of line)
 
 abbrev pub order_of : List Word → Result AnyOrder RefusalReason
 order_of [] = Err Unknown
-order_of (word ∷ words) = order_by (verb_of word) (word ∷ words)
+order_of (word ∷ words) = order_by (meta_verb_of word) (word ∷ words)
 
 abbrev pub skip_by : Option Verb → List Word → Skip
 skip_by None line = texts.classic_skip_of line
@@ -38,7 +38,7 @@ skip_by (Some verb) line = metas.meta_skip_of line
 
 abbrev pub skip_of : List Word → Skip
 skip_of [] = Nothing
-skip_of (word ∷ words) = skip_by (verb_of word) (word ∷ words)
+skip_of (word ∷ words) = skip_by (meta_verb_of word) (word ∷ words)
 
 abbrev pub block_len : AnyOrder → Option ℕ
 block_len (Classic order) = text_lines.classic_block_len order

@@ -2,12 +2,12 @@
 
 ghost use Rattle.std.specs.Prelude.{◌≡◌, ◌≤◌, ◌<◌, ◌+◌, ◌^◌, ℕ, IfSome};
 ghost use Rattle.mc_types.specs.declared.ask.Op.TheVariants.{Delete};
-ghost use Rattle.route_tree.specs.Plan.{count, count_of_all, count_of_policies};
+ghost use Rattle.route_tree.specs.Plan.{plan_count, plan_count_of_all, plan_count_of_policies};
 ghost use Rattle.route_tree.specs.Form.{plans_of, plan_policies_of};
 ghost use Rattle.route_tree.specs.declared.limits.TheConstants.{ROUTE_LIMIT};
-ghost use Rattle.gate_coverage.specs.Computed.{asks_get, fails, fails_some, fails_each, fails_last, fails_head, fails_policy};
+ghost use Rattle.gate_coverage.specs.Computed.{asks_get, can_fail, fails_some, fails_each, fails_last, fails_head, fails_policy};
 ghost use Rattle.gate_gaps.specs.Turns as turns;
-ghost use Rattle.gate_gaps.specs.Turns.{tries, tries_all, tries_first, tries_head, tries_policy, acks, acks_first, acks_head, acks_policy, finds, finds_first, finds_some, finds_head, finds_policy};
+ghost use Rattle.gate_gaps.specs.Turns.{tries, tries_all, tries_first, tries_head, tries_policy, acks, acks_first, acks_head, acks_policy, calls_before_found, finds_first, finds_some, finds_head, finds_policy};
 
 use gate_coverage::stores::is_op;
 use mc_types::{Op, ServerId};
@@ -23,9 +23,9 @@ struct Tried {
 #[cycle(trying)]
 fn trying(plain: &Plain, op: Op) -> Tried
     ensures calls { result.calls ≡ tries op plain.now }
-    ensures fails { result.fails ≡ fails op plain.now }
-    ensures few { result.calls ≤ count plain.now }
-    ensures bound { count plain.now ≤ ROUTE_LIMIT }
+    ensures fails { result.fails ≡ can_fail op plain.now }
+    ensures few { result.calls ≤ plan_count plain.now }
+    ensures bound { plan_count plain.now ≤ ROUTE_LIMIT }
 {
     match plain.form() {
         PlainForm::Server(_) => Tried {
@@ -68,10 +68,10 @@ fn trying(plain: &Plain, op: Op) -> Tried
 // What comes of all children, where every call fails.
 #[cycle(trying)]
 fn trying_some(children: &[Plain], op: Op) -> Tried
-    requires { count_of_all (plans_of children.now) ≤ ROUTE_LIMIT }
+    requires { plan_count_of_all (plans_of children.now) ≤ ROUTE_LIMIT }
     ensures calls { result.calls ≡ tries_all op (plans_of children.now) }
     ensures fails { result.fails ≡ fails_some op (plans_of children.now) }
-    ensures few { result.calls ≤ count_of_all (plans_of children.now) }
+    ensures few { result.calls ≤ plan_count_of_all (plans_of children.now) }
 {
     match children {
         [] => Tried {
@@ -92,10 +92,10 @@ fn trying_some(children: &[Plain], op: Op) -> Tried
 // What comes of children up to one that doesn't fail, where every call fails.
 #[cycle(trying)]
 fn trying_first(children: &[Plain], op: Op) -> Tried
-    requires { count_of_all (plans_of children.now) ≤ ROUTE_LIMIT }
+    requires { plan_count_of_all (plans_of children.now) ≤ ROUTE_LIMIT }
     ensures calls { result.calls ≡ tries_first op (plans_of children.now) }
     ensures fails { result.fails ≡ fails_each op (plans_of children.now) }
-    ensures few { result.calls ≤ count_of_all (plans_of children.now) }
+    ensures few { result.calls ≤ plan_count_of_all (plans_of children.now) }
 {
     match children {
         [] => Tried {
@@ -120,10 +120,10 @@ fn trying_first(children: &[Plain], op: Op) -> Tried
 // What comes of all children of a get that none of them hits, where every call fails.
 #[cycle(trying)]
 fn trying_last(children: &[Plain], op: Op) -> Tried
-    requires { count_of_all (plans_of children.now) ≤ ROUTE_LIMIT }
+    requires { plan_count_of_all (plans_of children.now) ≤ ROUTE_LIMIT }
     ensures calls { result.calls ≡ tries_all op (plans_of children.now) }
     ensures fails { result.fails ≡ fails_last op (plans_of children.now) }
-    ensures few { result.calls ≤ count_of_all (plans_of children.now) }
+    ensures few { result.calls ≤ plan_count_of_all (plans_of children.now) }
 {
     match children {
         [] => Tried {
@@ -145,10 +145,10 @@ fn trying_last(children: &[Plain], op: Op) -> Tried
 // What comes of the first child alone, where every call fails.
 #[cycle(trying)]
 fn trying_head(children: &[Plain], op: Op) -> Tried
-    requires { count_of_all (plans_of children.now) ≤ ROUTE_LIMIT }
+    requires { plan_count_of_all (plans_of children.now) ≤ ROUTE_LIMIT }
     ensures calls { result.calls ≡ tries_head op (plans_of children.now) }
     ensures fails { result.fails ≡ fails_head op (plans_of children.now) }
-    ensures few { result.calls ≤ count_of_all (plans_of children.now) }
+    ensures few { result.calls ≤ plan_count_of_all (plans_of children.now) }
 {
     match children {
         [] => Tried {
@@ -164,7 +164,7 @@ fn trying_head(children: &[Plain], op: Op) -> Tried
 fn trying_policy(policies: &[(Op, Plain)], default: &Plain, op: Op) -> Tried
     ensures calls { result.calls ≡ tries_policy op (plan_policies_of policies.now default.now) }
     ensures fails { result.fails ≡ fails_policy op (plan_policies_of policies.now default.now) }
-    ensures few { result.calls ≤ count_of_policies (plan_policies_of policies.now default.now) }
+    ensures few { result.calls ≤ plan_count_of_policies (plan_policies_of policies.now default.now) }
 {
     match policies {
         [] => trying(default, op),
@@ -226,9 +226,9 @@ pub fn acknowledged_after(plain: &Plain, server: ServerId) -> Option<u32>
 // How many calls of a delete that asks children up to one that doesn't fail do fail before it is acknowledged.
 #[cycle(acking)]
 fn acking_first(children: &[Plain], server: ServerId) -> Option<u32>
-    requires { count_of_all (plans_of children.now) ≤ ROUTE_LIMIT }
+    requires { plan_count_of_all (plans_of children.now) ≤ ROUTE_LIMIT }
     ensures number { result ≡ acks_first server (plans_of children.now) }
-    ensures bound { count_of_all (plans_of children.now) ≤ ROUTE_LIMIT }
+    ensures bound { plan_count_of_all (plans_of children.now) ≤ ROUTE_LIMIT }
 {
     match children {
         [] => None,
@@ -273,7 +273,7 @@ fn acking_policy(policies: &[(Op, Plain)], default: &Plain, server: ServerId) ->
 /// How many calls of a read fail before it shows the server's item, where all others fail. It takes no memory.
 #[cycle(finding)]
 pub fn found_after(plain: &Plain, op: Op, server: ServerId) -> Option<u32>
-    ensures { result ≡ finds op server plain.now }
+    ensures { result ≡ calls_before_found op server plain.now }
 {
     match plain.form() {
         PlainForm::Server(other) => {
@@ -310,9 +310,9 @@ pub fn found_after(plain: &Plain, op: Op, server: ServerId) -> Option<u32>
 // How many calls of a read that asks children up to one that doesn't fail do fail before it shows the server's item.
 #[cycle(finding)]
 fn finding_first(children: &[Plain], op: Op, server: ServerId) -> Option<u32>
-    requires { count_of_all (plans_of children.now) ≤ ROUTE_LIMIT }
+    requires { plan_count_of_all (plans_of children.now) ≤ ROUTE_LIMIT }
     ensures number { result ≡ finds_first op server (plans_of children.now) }
-    ensures bound { count_of_all (plans_of children.now) ≤ ROUTE_LIMIT }
+    ensures bound { plan_count_of_all (plans_of children.now) ≤ ROUTE_LIMIT }
 {
     match children {
         [] => None,
@@ -329,9 +329,9 @@ fn finding_first(children: &[Plain], op: Op, server: ServerId) -> Option<u32>
 // How many calls of a read that asks children up to a hit fail before it shows the server's item.
 #[cycle(finding)]
 fn finding_some(children: &[Plain], op: Op, server: ServerId) -> Option<u32>
-    requires { count_of_all (plans_of children.now) ≤ ROUTE_LIMIT }
+    requires { plan_count_of_all (plans_of children.now) ≤ ROUTE_LIMIT }
     ensures number { result ≡ finds_some op server (plans_of children.now) }
-    ensures bound { count_of_all (plans_of children.now) ≤ ROUTE_LIMIT }
+    ensures bound { plan_count_of_all (plans_of children.now) ≤ ROUTE_LIMIT }
 {
     match children {
         [] => None,

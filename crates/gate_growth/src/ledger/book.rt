@@ -37,12 +37,12 @@ impl Ledger {
     ghost use Rattle.route_tree.specs.Route.{Route};
     ghost use Rattle.gate_growth.specs.Grown.{AreSoundSince};
     ghost use Rattle.gate_growth.specs.Pages.{AreOpened};
-    ghost use Rattle.gate_growth.specs.Ledgers.{server_count, IsLedgerOf, IsUnsoundFor};
+    ghost use Rattle.gate_growth.specs.Ledgers.{count_of_known, IsLedgerOf, IsUnsoundFor};
 
     /// That of no generation. The only error is that memory was refused.
     pub fn new(alloc: Global) -> Result<Ledger, AllocError>
         ensures ledger { IfOk result (λ ledger. (arbitrary : ℕ → Bool) → IsLedgerOf arbitrary [] ledger) }
-        ensures servers { IfOk result (λ ledger. server_count ledger ≡ 0) }
+        ensures servers { IfOk result (λ ledger. count_of_known ledger ≡ 0) }
     {
         let mut pages = Vec::new(alloc);
         pages.push(Page {
@@ -64,7 +64,7 @@ impl Ledger {
 
     /// That of the configuration as the first generation, where its tree is sound. Its servers began so.
     pub fn first(alloc: Global, config: &Config, opened: Beginning) -> Result<Ledger, Unsound>
-        ensures servers { IfOk result (λ ledger. server_count ledger ≡ length config.now.servers) }
+        ensures servers { IfOk result (λ ledger. count_of_known ledger ≡ length config.now.servers) }
         ensures first { (arbitrary : ℕ → Bool) → AreOpened arbitrary 0 (length config.now.servers) opened → MatchResult result (IsLedgerOf arbitrary (config.now.tree ∷ [])) (IsUnsoundFor arbitrary [] config.now.tree) }
     {
         let ledger = Ledger::new(alloc)?;
@@ -74,7 +74,7 @@ impl Ledger {
     /// Whether the configuration may be the next generation: the trees so far followed by its own are sound. Its new servers
     /// began so.
     pub fn judge(&self, alloc: Global, config: &Config, new: Beginning) -> Result<(), Unsound>
-        ensures { (arbitrary : ℕ → Bool) (trees : List Route) → IsLedgerOf arbitrary trees self.now → AreOpened arbitrary (server_count self.now) (length config.now.servers) new → MatchResult result (λ _. AreSoundSince arbitrary (trees ++ config.now.tree ∷ [])) (IsUnsoundFor arbitrary trees config.now.tree) }
+        ensures { (arbitrary : ℕ → Bool) (trees : List Route) → IsLedgerOf arbitrary trees self.now → AreOpened arbitrary (count_of_known self.now) (length config.now.servers) new → MatchResult result (λ _. AreSoundSince arbitrary (trees ++ config.now.tree ∷ [])) (IsUnsoundFor arbitrary trees config.now.tree) }
     {
         let _next = self.next(alloc, config, new)?;
         Ok(())
@@ -83,8 +83,8 @@ impl Ledger {
     /// Makes the configuration the next generation, where it may be, and answers its number, counted from 1. Its new servers
     /// began so. After an error the ledger is as it was.
     pub fn follow(&mut self, alloc: Global, config: &Config, new: Beginning) -> Result<u32, Unsound>
-        ensures followed { (arbitrary : ℕ → Bool) (trees : List Route) → IsLedgerOf arbitrary trees self.old → AreOpened arbitrary (server_count self.old) (length config.now.servers) new → MatchResult result (λ n. (n ≡ suc (length trees)) × IsLedgerOf arbitrary (trees ++ config.now.tree ∷ []) self.new) (IsUnsoundFor arbitrary trees config.now.tree) }
-        ensures servers { OnOk result (server_count self.new ≡ max (server_count self.old) (length config.now.servers)) }
+        ensures followed { (arbitrary : ℕ → Bool) (trees : List Route) → IsLedgerOf arbitrary trees self.old → AreOpened arbitrary (count_of_known self.old) (length config.now.servers) new → MatchResult result (λ n. (n ≡ suc (length trees)) × IsLedgerOf arbitrary (trees ++ config.now.tree ∷ []) self.new) (IsUnsoundFor arbitrary trees config.now.tree) }
+        ensures servers { OnOk result (count_of_known self.new ≡ max (count_of_known self.old) (length config.now.servers)) }
         ensures refused { OnErr result (self.new ≡ self.old) }
     {
         let next = self.next(alloc, config, new)?;
@@ -94,8 +94,8 @@ impl Ledger {
 
     // The ledger with the configuration as the next generation, where it may be.
     fn next(&self, alloc: Global, config: &Config, new: Beginning) -> Result<Ledger, Unsound>
-        ensures servers { IfOk result (λ ledger. server_count ledger ≡ max (server_count self.now) (length config.now.servers)) }
-        ensures next { (arbitrary : ℕ → Bool) (trees : List Route) → IsLedgerOf arbitrary trees self.now → AreOpened arbitrary (server_count self.now) (length config.now.servers) new → MatchResult result (IsLedgerOf arbitrary (trees ++ config.now.tree ∷ [])) (IsUnsoundFor arbitrary trees config.now.tree) }
+        ensures servers { IfOk result (λ ledger. count_of_known ledger ≡ max (count_of_known self.now) (length config.now.servers)) }
+        ensures next { (arbitrary : ℕ → Bool) (trees : List Route) → IsLedgerOf arbitrary trees self.now → AreOpened arbitrary (count_of_known self.now) (length config.now.servers) new → MatchResult result (IsLedgerOf arbitrary (trees ++ config.now.tree ∷ [])) (IsUnsoundFor arbitrary trees config.now.tree) }
     {
         if self.count == u32::MAX {
             return Err(Unsound::TooManyGenerations);

@@ -2,7 +2,7 @@
 
 ghost use Rattle.std.specs.Prelude.{◌≡◌, ℕ, ◌%◌, ◌<◌, ◌^◌, Bool, List, [], ◌∷◌, ◌++◌, map, length, Some, None, IfOk, slice_get};
 ghost use Rattle.route_tree.specs.Each.{Each};
-ghost use Rattle.route_tree.specs.Plan.{Plan, IsGood};
+ghost use Rattle.route_tree.specs.Plan.{Plan, IsGoodPlan};
 ghost use Rattle.route_tree.specs.Servers.{tree_servers};
 ghost use Rattle.gate_coverage.specs.Seen.{plan_of};
 ghost use Rattle.gate_check.specs.Looking.{IsFirstTaken};
@@ -179,7 +179,7 @@ fn turned_row(
 
 // The gap of a refusal at a place.
 fn gap_of(place: Place, seen: Seen, refused: Option<Refused>) -> Option<LeftGap>
-    ensures { (arbitrary : ℕ → Bool) (plans : List Plan) → Each IsGood plans → IfRefusedOf arbitrary plans (plan_of seen.entry) refused → IfLeftBy arbitrary plans (plan_of seen.entry) place result }
+    ensures { (arbitrary : ℕ → Bool) (plans : List Plan) → Each IsGoodPlan plans → IfRefusedOf arbitrary plans (plan_of seen.entry) refused → IfLeftBy arbitrary plans (plan_of seen.entry) place result }
 {
     match refused {
         None => None,
@@ -190,7 +190,7 @@ fn gap_of(place: Place, seen: Seen, refused: Option<Refused>) -> Option<LeftGap>
 // The gap of a refusal: both kinds of delete leave the server, of which `delete` is the first.
 fn left_gap(place: Place, seen: Seen, refused: Refused) -> LeftGap
     ensures place { result.gap.place ≡ place }
-    ensures left { (arbitrary : ℕ → Bool) (plans : List Plan) → Each IsGood plans → IsFirstOf arbitrary plans (plan_of seen.entry) refused → IsLeftBy arbitrary plans (plan_of seen.entry) result.generation result.gap }
+    ensures left { (arbitrary : ℕ → Bool) (plans : List Plan) → Each IsGoodPlan plans → IsFirstOf arbitrary plans (plan_of seen.entry) refused → IsLeftBy arbitrary plans (plan_of seen.entry) result.generation result.gap }
 {
     seen.lawful();
     let server = refused.server;

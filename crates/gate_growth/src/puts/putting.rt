@@ -4,7 +4,7 @@ ghost use Rattle.std.specs.Prelude.{◌≡◌, ◌≤◌, ◌↔◌, ◌||◌, I
 ghost use Rattle.route_tree.specs.PlanCode.{plan_size};
 ghost use Rattle.gate_coverage.specs.Seen.{plan_of, all_plans_of, plan_of_seen_form};
 ghost use Rattle.gate_growth.specs.Puts.{Puts};
-ghost use Rattle.gate_growth.specs.PutsComputed.{stores, stores_some, stores_first, stores_head, refills, puts};
+ghost use Rattle.gate_growth.specs.PutsComputed.{may_store, stores_some, may_store_first, stores_head, refills, puts};
 
 use crate::puts::laws::puts_is_exact;
 use gate_coverage::possible::possible_at;
@@ -35,7 +35,7 @@ pub fn is_put_on(seen: Seen, server: ServerId) -> bool
 
 // What is left of it for the operation: the same is stored by the operation.
 fn form_for<'a>(seen: Seen<'a>, op: Op) -> SeenForm<'a>
-    ensures stores { (s : ℕ) → stores op s (plan_of_seen_form result) ≡ stores op s (plan_of seen.entry) }
+    ensures stores { (s : ℕ) → may_store op s (plan_of_seen_form result) ≡ may_store op s (plan_of seen.entry) }
     ensures size { plan_size (plan_of_seen_form result) ≤ plan_size (plan_of seen.entry) }
 {
     seen.left(op)
@@ -44,7 +44,7 @@ fn form_for<'a>(seen: Seen<'a>, op: Op) -> SeenForm<'a>
 // Whether the operation can ask the server; of a get, whether it can put a copy there.
 #[cycle(stores_at)]
 fn stores_at(seen: Seen, op: Op, server: ServerId) -> bool
-    ensures { result ≡ stores op server (plan_of seen.entry) }
+    ensures { result ≡ may_store op server (plan_of seen.entry) }
 {
     match form_for(seen, op) {
         SeenForm::Server(other) => !is_op(op, Op::Get) && other.number() == server.number(),
@@ -88,7 +88,7 @@ fn some_store(children: SeenAll, op: Op, server: ServerId) -> bool
 // Children up to one that doesn't fail.
 #[cycle(stores_at)]
 fn first_store(children: SeenAll, op: Op, server: ServerId) -> bool
-    ensures { result ≡ stores_first op server (all_plans_of children.entry) }
+    ensures { result ≡ may_store_first op server (all_plans_of children.entry) }
 {
     match children.parted() {
         Some(parts) => {

@@ -3,7 +3,7 @@
 ghost use Rattle.std.specs.Prelude.{◌≡◌, ◌+◌, ◌<◌, ◌^◌, OnOk, length};
 ghost use Rattle.std.specs.Io.KnownBytes.{Appends};
 ghost use Rattle.route_tree.specs.Form.{policies_of, prefixes_of, routes_of};
-ghost use Rattle.mcgate_args.specs.FleetLines.{copy_path, copy_path_begun, copy_path_by, copy_path_in, copying_end, copying_front, copying_line, fleet_line, many_files_line, many_places_line, pair_fields, pair_gap_line, pair_head, step_text, step_to_child, step_to_policy};
+ghost use Rattle.mcgate_args.specs.FleetLines.{copy_path, copy_path_begun, copy_path_by, copy_path_in, copying_end, copying_front, copying_line, fleet_line, many_files_line, many_places_line, pair_fields, pair_gap_line, pair_head, copy_step_text, step_to_child, step_to_policy};
 
 use gate_check::Gap;
 use gate_coverage::prefixes::prefix_text;
@@ -135,9 +135,9 @@ enum ChildStep {
     Wildcard,
 }
 
-#[tactic(auto, unfolding(crate::specs::FleetLines::step_text))]
+#[tactic(auto, unfolding(crate::specs::FleetLines::copy_step_text))]
 fn step_text(step: ChildStep) -> &'static str
-    ensures { result.now ≡ step_text step }
+    ensures { result.now ≡ copy_step_text step }
 {
     match step {
         ChildStep::Default => "/default_policy",
@@ -147,7 +147,7 @@ fn step_text(step: ChildStep) -> &'static str
 }
 
 fn write_step<W: Write>(step: ChildStep, out: &mut W) -> io::Result<()>
-    ensures { OnOk result (Appends (W.contents out.old) (W.contents out.new) (step_text step)) }
+    ensures { OnOk result (Appends (W.contents out.old) (W.contents out.new) (copy_step_text step)) }
 {
     let text = step_text(step);
     write!(out, "{text}")

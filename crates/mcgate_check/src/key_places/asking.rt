@@ -2,7 +2,7 @@
 
 ghost use Rattle.std.specs.Prelude.{◌≡◌, ◌++◌, IfOk};
 ghost use Rattle.route_tree.specs.Form.{plans_of, plan_policies_of};
-ghost use Rattle.mcgate_check.specs.Asking.{asked, asked_of_all, asked_of_head, asked_by};
+ghost use Rattle.mcgate_check.specs.Asking.{servers_asked, asked_of_all, asked_of_head, servers_asked_by};
 
 use gate_coverage::stores::is_op;
 use mc_types::{Op, ServerId};
@@ -12,7 +12,7 @@ use std::alloc::AllocError;
 /// Adds them, in the plain tree's order. The only error is running out of memory.
 #[cycle(asked)]
 pub fn add_asked(plain: &Plain, op: Op, list: &mut Vec<ServerId>) -> Result<(), AllocError>
-    ensures { IfOk result (λ _. list.new.items ≡ list.old.items ++ asked op plain.now) }
+    ensures { IfOk result (λ _. list.new.items ≡ list.old.items ++ servers_asked op plain.now) }
 {
     match plain.form() {
         PlainForm::Server(server) => {
@@ -73,7 +73,7 @@ fn add_by(
     op: Op,
     list: &mut Vec<ServerId>,
 ) -> Result<(), AllocError>
-    ensures { IfOk result (λ _. list.new.items ≡ list.old.items ++ asked_by op (plan_policies_of policies.now default.now)) }
+    ensures { IfOk result (λ _. list.new.items ≡ list.old.items ++ servers_asked_by op (plan_policies_of policies.now default.now)) }
 {
     match policies {
         [] => add_asked(default, op, list),

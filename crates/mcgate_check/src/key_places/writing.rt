@@ -88,7 +88,7 @@ fn write_row<W: Write>(
 }
 
 fn asked(alloc: Global, plain: &Plain, op: Op) -> Result<Vec<ServerId>, AllocError>
-    ensures { IfOk result (λ list. list.items ≡ spec.asked op plain.now) }
+    ensures { IfOk result (λ list. list.items ≡ spec.servers_asked op plain.now) }
 {
     let mut list = Vec::new(alloc);
     add_asked(plain, op, &mut list)?;
@@ -103,7 +103,7 @@ fn write_op<W: Write>(
     op: Op,
     out: &mut W,
 ) -> Result<(), RunFault>
-    ensures ok { OnOk result (Appends (W.contents out.old) (W.contents out.new) (op_line servers.now pools.now op (spec.asked op plain.now))) }
+    ensures ok { OnOk result (Appends (W.contents out.old) (W.contents out.new) (op_line servers.now pools.now op (spec.servers_asked op plain.now))) }
     ensures err { IfErr result IsNoOverrun }
 {
     let list = asked(alloc, plain, op)?;

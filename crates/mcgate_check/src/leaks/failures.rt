@@ -1,6 +1,6 @@
 //! Which calls fail in a refusal run.
 ghost use Rattle.std.specs.Prelude.{◌≡◌, IfOk};
-ghost use Rattle.route_tree.specs.Plan.{IsGood};
+ghost use Rattle.route_tree.specs.Plan.{IsGoodPlan};
 ghost use Rattle.route_tree.specs.At.{tree_at};
 ghost use Rattle.mcgate_check.specs.Failing.{failures_of};
 
@@ -20,7 +20,7 @@ pub struct Failures {
 // shows the server's item, if there are such.
 fn failures_in(plain: &Plain, op: Op, server: ServerId) -> Option<Failures>
     ensures failures { result ≡ failures_of op server plain.now }
-    ensures good { IsGood plain.now }
+    ensures good { IsGoodPlan plain.now }
 {
     let _form = plain.form();
     let delete = acknowledged_after(plain, server)?;
@@ -37,7 +37,7 @@ pub fn failures_at(
     server: ServerId,
 ) -> Result<Option<Failures>, AllocError>
     ensures failures { IfOk result (λ found. found ≡ failures_of op server (tree_at tree.now key.now)) }
-    ensures good { IfOk result (λ found. IsGood (tree_at tree.now key.now)) }
+    ensures good { IfOk result (λ found. IsGoodPlan (tree_at tree.now key.now)) }
 {
     let plain = tree.at(alloc, key)?;
     Ok(failures_in(&plain, op, server))

@@ -1,7 +1,7 @@
 //! Scripts that leak, for gaps.
 ghost use Rattle.std.specs.Prelude.{◌≡◌, ◌≤◌, ◌↔◌, [], ◌∷◌, List, Some, None, true, false, map, length, MatchOption, IfOk, IfSome, IfNone, IsTrue, if◌then◌else◌};
 ghost use Rattle.fresh_runs.specs.Log.{Scripted};
-ghost use Rattle.route_tree.specs.Plan.{IsGood};
+ghost use Rattle.route_tree.specs.Plan.{IsGoodPlan};
 ghost use Rattle.route_tree.specs.At.{tree_at};
 ghost use Rattle.gate_coverage.specs.Cover.{IsTaking};
 ghost use Rattle.gate_check.specs.Tables.{IsTable};
@@ -83,7 +83,7 @@ fn computed_run(
     requires taking { IsTaking gap.now.op }
     requires first { IsFirstKeyTried config.now.tree gap.now.place key.now }
     requires computed { failures_of gap.now.op gap.now.server (tree_at config.now.tree key.now) ≡ Some failures }
-    requires good { IsGood (tree_at config.now.tree key.now) }
+    requires good { IsGoodPlan (tree_at config.now.tree key.now) }
     ensures { IfOk result (λ script. IsRefusalRun config.now gap.now (map scripted_of script.events.items)) }
 {
     let tree = config.tree();

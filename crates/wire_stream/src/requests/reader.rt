@@ -76,7 +76,7 @@ fn of_meta(text: &[u8], read: wire_meta::MetaRead) -> Read
 // The dialect that alone can have this word as a command: each meta command has two letters, and no classic one has. A word
 // that is no command is unknown in both.
 fn dialect_of(word: &[u8]) -> Dialect
-    ensures classic { result ≡ Dialect.Classic → meta_words.verb_of word.now ≡ None }
+    ensures classic { result ≡ Dialect.Classic → meta_words.meta_verb_of word.now ≡ None }
     ensures meta { result ≡ Dialect.Meta → text_words.verb_of word.now ≡ None }
 {
     match word.len() {

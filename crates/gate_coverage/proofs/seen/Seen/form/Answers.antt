@@ -1,14 +1,14 @@
 use Rattle.std.proofs.Common.{◌≡◌, ◌≤◌, ap, ◌∙◌, sym, subst}
 use Rattle.route_tree.specs.Plan.{Plan}
 use Rattle.route_tree.specs.PlanCode.{plan_size}
-use Rattle.gate_coverage.specs.Computed.{fails, hits, shown, copied, kept}
+use Rattle.gate_coverage.specs.Computed.{can_fail, hits, shown, copied, kept}
 use Rattle.gate_coverage.specs.Asked.{asks}
 use Rattle.gate_coverage.specs.Seen.{plan_of}
 use Rattle.gate_coverage.proofs.Left.{left_fails, left_hits, left_shown, left_copied, left_asks, left_kept, left_size}
 use Rattle.gate_coverage.proofs.seen.Seen.form.Goals as goal
 
 pub returns-clause-fails : goal.returns-clause-fails
-returns-clause-fails c = ap (fails c.args.op) c.left.ensures ∙ left_fails c.args.op (plan_of c.args.self)
+returns-clause-fails c = ap (can_fail c.args.op) c.left.ensures ∙ left_fails c.args.op (plan_of c.args.self)
 
 pub returns-clause-hits : goal.returns-clause-hits
 returns-clause-hits c = ap (hits c.args.op) c.left.ensures ∙ left_hits c.args.op (plan_of c.args.self)

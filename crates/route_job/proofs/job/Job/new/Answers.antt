@@ -3,8 +3,8 @@ use Rattle.route_tree.specs.Tag.{key_hash}
 use Rattle.mc_types.specs.declared.call.Origin.TheVariants.{Client}
 use Rattle.fresh_runs.specs.Calls.{Call}
 use Rattle.route_tree.specs.At.{plain_for, tree_at}
-use Rattle.route_tree.specs.Plan.{Plan, Server, count}
-use Rattle.route_tree.specs.Word.{Given, Word}
+use Rattle.route_tree.specs.Plan.{Plan, Server, plan_count}
+use Rattle.route_tree.specs.Word.{Given, PlanWord}
 use Rattle.route_tree.proofs.PlainTrees.{plan_plain}
 use Rattle.route_job.specs.Rest.{Comings}
 use Rattle.route_job.specs.Settling.{frames_work}
@@ -33,7 +33,7 @@ invariant_of-result-2 c =
     let is = new_is h key c.new-frames.result.items c.settle.new.frames.items c.args.ask c.in_ok-root.root c.in_ok-pending.pending c.new-frames.ensures.items c.in_ok-pending.ensures.leads in
     let less = c.in_ok-pending.ensures.less in
     let none = ap (frames_work h key) c.new-frames.ensures.items in
-    let same = ap (λ t. count (plain_for h key t)) c.in_ok-root.ensures in
+    let same = ap (λ t. plan_count (plain_for h key t)) c.in_ok-root.ensures in
     let many = (plan_plain h key c.args.tree.now c.form-form.ensures.tree).many in
     record { kept = record { rests = c.in_ok-pending.ensures.rests; sure = is.1; few = omega (arith, less, none, same, many) } }
 
@@ -43,4 +43,4 @@ returns-clause-words c =
     let key = c.args.ask.key in
     let is = new_is h key c.new-frames.result.items c.settle.new.frames.items c.args.ask c.in_ok-root.root c.in_ok-pending.pending c.new-frames.ensures.items c.in_ok-pending.ensures.leads in
     let e : plain_for h key c.in_ok-root.root ≡ tree_at c.args.tree.now key = ap₂ (λ n t. plain_for n key t) (c.key_hash-hash.ensures ∙ ap key_hash c.key-2.ensures) c.in_ok-root.ensures in
-    subst (λ (p : Plan). (calls : List Call) (given : Given) → Comings h key c.settle.new.frames.items c.args.ask Client c.in_ok-pending.pending 0 calls given ↔ Word p c.args.ask Client 0 calls given) e is.0
+    subst (λ (p : Plan). (calls : List Call) (given : Given) → Comings h key c.settle.new.frames.items c.args.ask Client c.in_ok-pending.pending 0 calls given ↔ PlanWord p c.args.ask Client 0 calls given) e is.0
