@@ -16,7 +16,7 @@ use crate::leaks::run::run_with;
 use crate::status::{BAD_INPUT, DONE, REFUSED, RunFault};
 use crate::verdict::{write_accepted, write_refusal};
 use gate_check::Reason;
-use gate_check::places::{PlaceTable, places};
+use gate_check::places::PlaceTable;
 use route_json::{Config, ConfigFault};
 use route_tree::Tree;
 use script_events::Script;
@@ -48,18 +48,6 @@ pub(crate) fn print_accepted_by<W: Write>(
 {
     write_accepted(place_count(tree, table), out)?;
     Ok(DONE)
-}
-
-/// Writes that a tree is accepted, with the number of its places.
-pub fn print_accepted<W: Write>(alloc: Global, tree: &Tree, out: &mut W) -> Result<u8, RunFault>
-    requires { IsCertified tree.now }
-    ensures ok { IfOk result (λ status. (status ≡ 0) × PrintsAccepted tree.now (W.contents out.old) (W.contents out.new)) }
-    ensures err { IfErr result (StopsUnwritten (W.contents out.old) (W.contents out.new)) }
-{
-    match places(alloc, tree) {
-        Ok(table) => print_accepted_by(tree, &table, out),
-        Err(_) => Err(RunFault::NoMemory),
-    }
 }
 
 /// Writes the line of a reason; where that is running out of memory, it is the error, and nothing was written.

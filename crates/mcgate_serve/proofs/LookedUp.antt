@@ -9,7 +9,11 @@ use Rattle.serve_wire.proofs.Steps.{untouched, untouched_twice, none_looks_up}
 use Rattle.serve_proxy.specs.Ends.{WireIsQuiet, HasNoConns}
 use Rattle.serve_links.specs.Story.{HasHappened}
 use Rattle.route_json.specs.Servers.{Addresses}
-use Rattle.mcgate_serve.specs.LooksUp.{AreLookedUp, AreLookedUpTo}
+use Rattle.mcgate_serve.specs.LooksUp.{AreLookedUp}
+
+-- from the server of this number on, each one's text was asked for, up to the one before another number
+abbrev pub AreLookedUpTo : (from to : ℕ) → Addresses → List WireEvent → Type 0
+AreLookedUpTo from to servers h = (at : ℕ) (text : List ℕ) → from ≤ at → at < to → slice_get servers at ≡ Some text → HasHappened (looks_up text) h
 
 pub none_yet : (from : ℕ) (servers : Addresses) (h : List WireEvent) → AreLookedUpTo from from servers h
 none_yet from servers h at text least less there = absurd (omega arith)

@@ -7,9 +7,9 @@ use Rattle.script_events.specs.declared.servers.event.FleetFault.TheVariants.{No
 use Rattle.core_proxy.specs.declared.proxy.Core.{Core}
 use Rattle.script_events.specs.declared.servers.servers.ScriptServers.{ScriptServers}
 use Rattle.script_run.specs.Breaking.{IsLastBegun, AreGivenAll, AreSpent, StopsAt, StopsFed, StopsGiving, BreaksOffAfter}
-use Rattle.script_run.specs.Running.{Moves, MovesFed, MovesAt, MovesByResults, AreAskedYet}
+use Rattle.script_run.specs.Running.{Moves, MovesFed, MovesAt, AreAskedYet}
 use Rattle.script_run.specs.declared.driver.runner.Runner.{Runner}
-use Rattle.script_run.proofs.DriverRunning.{stays, then, fed_then, none_by, by_none, by_then, at_then}
+use Rattle.script_run.proofs.DriverRunning.{MovesByResults, stays, then, fed_then, none_by, by_none, by_then, at_then}
 
 -- out of memory nothing is said of numbers
 pub none_begun : (fault : FleetFault) (core : Core) → fault ≡ NoMemory → IsLastBegun fault core

@@ -31,7 +31,8 @@ use Rattle.script_run.specs.Results.{CallResult, ResultsAreTold}
 use Rattle.script_run.specs.Standing.{Kept, story_of, LogGoesOn, GoesOnFed, tree_by}
 use Rattle.script_run.proofs.Told.{HasCalls, has_calls, has_calls_by, no_result, none_told}
 use Rattle.script_run.specs.Breaking.{AreSpent, IsWithinOne, BreaksOffAfter, StopsFed}
-use Rattle.script_run.specs.Running.{kept_of, AreOfOne, AreAskedYet, Stays, MovesFed, MovesByResults}
+use Rattle.script_run.specs.Running.{kept_of, AreOfOne, AreAskedYet, Stays, MovesFed}
+use Rattle.script_run.proofs.DriverRunning.{MovesByResults}
 use Rattle.script_run.specs.declared.driver.runner.Runner.{Runner}
 use Rattle.script_run.proofs.Breaking.{begun_spent}
 use Rattle.script_run.specs.Driving.{said_in, handed, AreThrough, HasNoResult, BringsSome, AreSteps, AreOutputs, IsStepPart, AreMarked, HaveMade, HasWorldOf, RunsBy, StepsPart, AreSpentIn, EndsStepped}

@@ -26,7 +26,8 @@ use Rattle.script_events.specs.Servers.{caches_of, turn_of, moment_now, named_of
 use Rattle.script_events.specs.declared.servers.servers.ScriptServers.{ScriptServers}
 use Rattle.script_run.specs.Standing.{Kept, LogStands, tree_by}
 use Rattle.script_run.specs.Laws.{NothingStands, IsBegin}
-use Rattle.script_run.specs.Running.{kept_of, MovesByResults}
+use Rattle.script_run.specs.Running.{kept_of}
+use Rattle.script_run.proofs.DriverRunning.{MovesByResults}
 use Rattle.script_run.specs.declared.driver.runner.Runner.{Runner}
 use Rattle.script_run.specs.Driving.{said_in, shown_to, AreHandedInTurn, IsReached, CameSo, CameInTurn, AreMarks}
 use Rattle.script_run.specs.Holding.{put_all_on}

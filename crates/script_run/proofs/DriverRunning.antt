@@ -31,11 +31,15 @@ use Rattle.script_run.proofs.Outs.{called_is_out}
 use Rattle.script_run.specs.Laws.{CountsPoll, PollsGoOn, ResultsGoOn, LoadsGoOn}
 use Rattle.script_run.specs.Counting.{last_delete_of}
 use Rattle.script_run.specs.Finding.{found_of}
-use Rattle.script_run.specs.Running.{kept_of, Moves, MovesBy, MovesByOne, MovesAt, MovesByResults, MovesFed, IsLoadedBy}
+use Rattle.script_run.specs.Running.{kept_of, Moves, MovesBy, MovesByOne, MovesAt, MovesFed, IsLoadedBy}
 use Rattle.script_run.specs.Turns.{TakesFirst, IsLeast, IsNextResult, AreNextResults, MovesInTurn}
 use Rattle.script_run.specs.declared.driver.found.FoundStamps.{FoundStamps}
 use Rattle.script_run.specs.declared.driver.runner.Runner.{Runner}
 use Rattle.script_run.proofs.Firsts.{out_call, left_out, is_there_one, none_below}
+
+-- the servers gave some results, and each log that stood before goes on by them, and stands after
+abbrev pub MovesByResults : Runner → ScriptServers → Runner → ScriptServers → Type 0
+MovesByResults old before new after = (results : List CallResult) × MovesBy results old before new after
 
 -- nothing was done
 pub stays : (a : Runner) (s : ScriptServers) → Moves a s a s

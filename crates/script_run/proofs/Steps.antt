@@ -24,9 +24,9 @@ use Rattle.script_events.specs.declared.servers.servers.ScriptServers.{ScriptSer
 use Rattle.script_run.specs.Results.{CallResult}
 use Rattle.script_run.specs.Standing.{Kept, story_of, LogStands, LogGoesOn, GoesOnFed, GoesOnGiven, LeavesAsMuch}
 use Rattle.script_run.proofs.Told.{has_calls, no_result, none_told, same_then, story_then, story_after}
-use Rattle.script_run.specs.Running.{kept_of, Stays, MovesAt, MovesByResults, MovesFed, MovesFedAtOnce, MovesGiven, RunnerRests}
+use Rattle.script_run.specs.Running.{kept_of, Stays, MovesAt, MovesFed, MovesFedAtOnce, MovesGiven, RunnerRests}
 use Rattle.script_run.specs.Turns.{AreNextResults, MovesInTurn}
-use Rattle.script_run.proofs.DriverRunning.{given_then, in_turn_then}
+use Rattle.script_run.proofs.DriverRunning.{MovesByResults, given_then, in_turn_then}
 use Rattle.script_run.proofs.Served.{served_below}
 use Rattle.script_run.specs.declared.driver.runner.Runner.{Runner}
 use Rattle.script_run.specs.Driving.{joined_cuts, CutsCome, shown_to, IsHanded, AreHandedInTurn}

@@ -33,7 +33,8 @@ use Rattle.script_events.specs.Servers.{caches_of, turn_of, AreNewServers}
 use Rattle.script_events.specs.declared.servers.servers.ScriptServers.{ScriptServers}
 use Rattle.script_run.specs.Standing.{Kept, LogStands, LeavesAsMuch, tree_by}
 use Rattle.script_run.specs.Laws.{StandingSays, NothingStands, IsBegin}
-use Rattle.script_run.specs.Running.{kept_of, MovesByResults, AreStalled, KeepStalled, RunnerRests}
+use Rattle.script_run.specs.Running.{kept_of, AreStalled, KeepStalled, RunnerRests}
+use Rattle.script_run.proofs.DriverRunning.{MovesByResults}
 use Rattle.script_run.specs.declared.driver.runner.Runner.{Runner}
 use Rattle.script_run.specs.Driving.{said_in, shown_to, handed, may_be_out, leaves_out, IsDoneFor, EventsAreSettled, HaveAllOutput, IsThrough, AreThrough, IsStepThrough, AreSteps, AreOutputs, IsMarked, AreMarked, one_loaded, trees_loaded, IsReached, CameSo, CameInTurn, RunsBy, DrivesStepped}
 use Rattle.script_run.specs.Holding.{put_all_on}

@@ -45,10 +45,6 @@ pub record MovesBy (results : List CallResult) (old : Runner) (before : ScriptSe
   pub given : AreGiven results before after
   pub goes : (opening : ℕ → List ℕ → Option Item) (tree : ℕ → Route) (log : List (Entry dialect)) → LogStands opening tree log (kept_of old before) → GoesOnWith opening tree log before results (kept_of new after)
 
--- the servers gave some results, and each log that stood before goes on by them, and stands after
-abbrev pub MovesByResults : Runner → ScriptServers → Runner → ScriptServers → Type 0
-MovesByResults old before new after = (results : List CallResult) × MovesBy results old before new after
-
 -- at most one result, of a call of this server
 abbrev pub AreOfOne : ℕ → List CallResult → Type 0
 AreOfOne server [] = Unit {0}

@@ -2,7 +2,7 @@
 use Rattle.std.proofs.Common.{◌≡◌, ◌⊎◌, inl, inr, ℕ, if◌then◌else◌, List, [], ◌++◌, take, drop, refl, sym, ap, ◌∙◌, subst, append_assoc, append-nil}
 use Rattle.std.proofs.lemmas.List.{take-append-drop}
 use Rattle.serve_wire.specs.Events.{WireEvent, role, begin_of, delivered, taken, is_over}
-use Rattle.serve_wire.specs.Agreement.{ClientAgrees, LinkAgrees, TouchesOnly}
+use Rattle.serve_wire.specs.Agreement.{ClientAgrees, TouchesOnly}
 use Rattle.serve_wire.proofs.Steps.{equal, untouched, only_twice, only_takes, only_delivers, only_ends, only_fails}
 use Rattle.serve_wire.specs.Ends.{ReadsConnection, Sends}
 use Rattle.serve_wire.specs.Flow.{ReadsOn, SendsOn, Stands}
@@ -130,11 +130,3 @@ client_reads h h' input output i c held held' unsent r was =
 pub client_sends : (h h' : List WireEvent) (input output : ℕ → List ℕ) (i c : ℕ) (held unsent unsent' : List ℕ) → SendsOn c unsent unsent' h h' → ClientAgrees h input output i c held unsent → ClientAgrees h' input output i c held unsent'
 client_sends h h' input output i c held unsent unsent' s was =
     record { is_its = s.same_role ∙ was.is_its; input_is = s.same_came ∙ was.input_is; output_is = was.output_is ∙ s.went }
-
-pub link_reads : (h h' : List WireEvent) (asked answered : ℕ → List ℕ) (i c : ℕ) (held held' unsent : List ℕ) → ReadsOn c held held' h h' → Stands c h h' → LinkAgrees h asked answered i c held unsent → LinkAgrees h' asked answered i c held' unsent
-link_reads h h' asked answered i c held held' unsent r stands was =
-    record { is_to = r.same_role ∙ was.is_to; goes_on = stands ∙ was.goes_on; asked_is = was.asked_is ∙ ap (λ l. l ++ unsent) (sym r.same_went); answered_is = r.came ∙ ap (λ l. l ++ r.bytes) was.answered_is ∙ append_assoc (answered i) held r.bytes ∙ ap (λ l. answered i ++ l) (sym r.held_is) }
-
-pub link_sends : (h h' : List WireEvent) (asked answered : ℕ → List ℕ) (i c : ℕ) (held unsent unsent' : List ℕ) → SendsOn c unsent unsent' h h' → Stands c h h' → LinkAgrees h asked answered i c held unsent → LinkAgrees h' asked answered i c held unsent'
-link_sends h h' asked answered i c held unsent unsent' s stands was =
-    record { is_to = s.same_role ∙ was.is_to; goes_on = stands ∙ was.goes_on; asked_is = was.asked_is ∙ s.went; answered_is = s.same_came ∙ was.answered_is }

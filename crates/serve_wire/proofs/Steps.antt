@@ -3,7 +3,7 @@ use Rattle.std.proofs.Common.{◌≡◌, ◌≢◌, ℕ, suc, ◌==◌, true, fa
 use Rattle.std.proofs.lemmas.Bool.{eq-eqb, eqb-true}
 use Rattle.std.proofs.lemmas.List.{take-append-drop}
 use Rattle.serve_wire.specs.Events.{WireEvent, admits, connects, delivers, takes, ends, fails, closes, accepts, looks_up, delivered, taken, role, begin_of, is_over, is_open, time, IsUntold}
-use Rattle.serve_wire.specs.Agreement.{ClientAgrees, LinkAgrees, BeginAgrees, Extends, IsUntouched, TouchesOnly}
+use Rattle.serve_wire.specs.Agreement.{ClientAgrees, BeginAgrees, Extends, IsUntouched, TouchesOnly}
 
 pub equal : (c : ℕ) → (c == c) ≡ true
 equal c = eq-eqb c c refl
@@ -84,10 +84,6 @@ pub client_stays : (h h' : List WireEvent) (input output : ℕ → List ℕ) (i 
 client_stays h h' input output i conn held unsent same was =
     record { is_its = same.same_role ∙ was.is_its; input_is = same.same_came ∙ was.input_is; output_is = was.output_is ∙ ap (λ l. l ++ unsent) (sym same.same_went) }
 
-pub link_stays : (h h' : List WireEvent) (asked answered : ℕ → List ℕ) (i conn : ℕ) (held unsent : List ℕ) → IsUntouched conn h h' → LinkAgrees h asked answered i conn held unsent → LinkAgrees h' asked answered i conn held unsent
-link_stays h h' asked answered i conn held unsent same was =
-    record { is_to = same.same_role ∙ was.is_to; goes_on = same.same_over ∙ was.goes_on; asked_is = was.asked_is ∙ ap (λ l. l ++ unsent) (sym same.same_went); answered_is = same.same_came ∙ was.answered_is }
-
 pub begin_stays : (h h' : List WireEvent) (begun : List ℕ × ℕ) (conn : ℕ) → IsUntouched conn h h' → BeginAgrees h begun conn → BeginAgrees h' begun conn
 begin_stays h h' begun conn same was = same.same_begin ∙ was
 
@@ -127,30 +123,5 @@ client_shown h input output output' i conn held unsent bytes shown was =
 
 -- ---- one link
 
--- its connection was begun, and these bytes are to be sent first
-pub link_begins : (h : List WireEvent) (text : List ℕ) (asked answered : ℕ → List ℕ) (i conn : ℕ) (unsent : List ℕ) → IsUntold conn h → asked i ≡ unsent → answered i ≡ [] → LinkAgrees (connects conn i text ∷ h) asked answered i conn [] unsent
-link_begins h text asked answered i conn unsent new first none =
-    record { is_to = ap (λ b. if b then Some (1, i) else role conn h) (equal conn); goes_on = new.goes_on; asked_is = first ∙ ap (λ l. l ++ unsent) (sym new.none_went); answered_is = new.none_came ∙ sym none ∙ sym (append-nil (answered i)) }
-
 pub begin_begins : (h : List WireEvent) (text : List ℕ) (i conn : ℕ) → BeginAgrees (connects conn i text ∷ h) (text, time h) conn
 begin_begins h text i conn = ap (λ b. if b then Some (text, time h) else begin_of conn h) (equal conn)
-
--- bytes came
-pub link_came : (h : List WireEvent) (asked answered : ℕ → List ℕ) (i conn : ℕ) (held unsent bytes : List ℕ) → LinkAgrees h asked answered i conn held unsent → LinkAgrees (delivers conn bytes ∷ h) asked answered i conn (held ++ bytes) unsent
-link_came h asked answered i conn held unsent bytes was =
-    record { is_to = was.is_to; goes_on = was.goes_on; asked_is = was.asked_is; answered_is = ap (λ b. if b then delivered conn h ++ bytes else delivered conn h) (equal conn) ∙ ap (λ l. l ++ bytes) was.answered_is ∙ append_assoc (answered i) held bytes }
-
--- its first bytes went
-pub link_went : (h : List WireEvent) (asked answered : ℕ → List ℕ) (i conn n : ℕ) (held unsent : List ℕ) → LinkAgrees h asked answered i conn held unsent → LinkAgrees (takes conn (take n unsent) ∷ h) asked answered i conn held (drop n unsent)
-link_went h asked answered i conn n held unsent was =
-    record { is_to = was.is_to; goes_on = was.goes_on; answered_is = was.answered_is; asked_is = was.asked_is ∙ ap (λ l. taken conn h ++ l) (sym (take-append-drop n unsent)) ∙ sym (append_assoc (taken conn h) (take n unsent) (drop n unsent)) ∙ ap (λ b. (if b then taken conn h ++ take n unsent else taken conn h) ++ drop n unsent) (sym (equal conn)) }
-
--- calls are to be sent
-pub link_asked : (h : List WireEvent) (asked asked' answered : ℕ → List ℕ) (i conn : ℕ) (held unsent bytes : List ℕ) → asked' i ≡ asked i ++ bytes → LinkAgrees h asked answered i conn held unsent → LinkAgrees h asked' answered i conn held (unsent ++ bytes)
-link_asked h asked asked' answered i conn held unsent bytes more was =
-    record { is_to = was.is_to; goes_on = was.goes_on; answered_is = was.answered_is; asked_is = more ∙ ap (λ l. l ++ bytes) was.asked_is ∙ append_assoc (taken conn h) unsent bytes }
-
--- the first of what is held settled calls
-pub link_settled : (h : List WireEvent) (asked answered answered' : ℕ → List ℕ) (i conn : ℕ) (bytes held unsent : List ℕ) → answered' i ≡ answered i ++ bytes → LinkAgrees h asked answered i conn (bytes ++ held) unsent → LinkAgrees h asked answered' i conn held unsent
-link_settled h asked answered answered' i conn bytes held unsent more was =
-    record { is_to = was.is_to; goes_on = was.goes_on; asked_is = was.asked_is; answered_is = was.answered_is ∙ sym (append_assoc (answered i) bytes held) ∙ ap (λ l. l ++ held) (sym more) }

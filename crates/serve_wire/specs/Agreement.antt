@@ -18,14 +18,6 @@ pub record ClientLost (h : List WireEvent) (input output : ℕ → List ℕ) (i 
   pub unsent : List ℕ
   pub output_is : output i ≡ taken conn h ++ unsent
 
--- a link stands, and is to its own server: what was asked there is what it took, and then what is unsent; what came from there settled
--- calls of this server, and is else held
-pub record LinkAgrees (h : List WireEvent) (asked answered : ℕ → List ℕ) (i conn : ℕ) (held unsent : List ℕ) : Type 0 where
-  pub is_to : role conn h ≡ Some (1, i)
-  pub goes_on : is_over conn h ≡ false
-  pub asked_is : asked i ≡ taken conn h ++ unsent
-  pub answered_is : delivered conn h ≡ answered i ++ held
-
 -- a connection was begun at the address that this text names, when the clock showed this
 abbrev pub BeginAgrees : List WireEvent → List ℕ × ℕ → ℕ → Type 0
 BeginAgrees h begun conn = begin_of conn h ≡ Some begun

@@ -1,10 +1,8 @@
 //! The marks of a server at a place, and when a tree may follow.
 
-ghost use Rattle.std.specs.Prelude.{◌≡◌, ◌↔◌, ℕ, List, [], ◌∷◌, ◌++◌, Bool, false, length, IsTrue, MatchResult};
-ghost use Rattle.route_tree.specs.Each.{Each};
+ghost use Rattle.std.specs.Prelude.{◌≡◌, ◌↔◌, ℕ, List, [], ◌∷◌, ◌++◌, Bool, length, IsTrue, MatchResult};
 ghost use Rattle.route_tree.specs.Plan.{Plan};
 ghost use Rattle.gate_coverage.specs.Seen.{plan_of};
-ghost use Rattle.gate_growth.specs.Puts.{Puts};
 ghost use Rattle.gate_growth.specs.Marks.{IsTaken, IsClear, IsMarkOf, MayStandAfter, IsRefusedFor};
 ghost use Rattle.gate_growth.specs.Computed.{first_left, refusal, mark_after};
 
@@ -28,16 +26,6 @@ pub fn new_mark(arbitrary: bool) -> Mark
 {
     Mark {
         held: arbitrary,
-        left: None,
-    }
-}
-
-/// That of a server that isn't arbitrary and on which no tree so far puts items, as of one that a later tree brings.
-pub fn untouched_mark() -> Mark
-    ensures { (plans : List Plan) (server : ℕ) → Each (λ plan. Puts plan server → ⊥) plans → IsMarkOf false plans server result }
-{
-    Mark {
-        held: false,
         left: None,
     }
 }

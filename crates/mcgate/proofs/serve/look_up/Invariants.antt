@@ -1,5 +1,5 @@
 use Rattle.serve_proxy.specs.Ends.{WireIsQuiet}
-use Rattle.mcgate_serve.specs.LooksUp.{AreLookedUpTo}
+use Rattle.mcgate_serve.proofs.LookedUp.{AreLookedUpTo}
 use Rattle.mcgate.specs.Served.{history_of}
 use Rattle.mcgate.proofs.serve.look_up.Given as goal
 

@@ -1,6 +1,6 @@
 use Rattle.std.proofs.Common.{◌≡◌, ◌≤◌, length, ◌∙◌, refl, sym, ap, subst, arith}
 use Rattle.serve_proxy.proofs.Staying.{stay_then, stay_still}
-use Rattle.mcgate_serve.specs.LooksUp.{AreLookedUpTo}
+use Rattle.mcgate_serve.proofs.LookedUp.{AreLookedUpTo}
 use Rattle.mcgate_serve.proofs.LookedUp.{none_yet, one_more, to_all}
 use Rattle.mcgate_serve.proofs.serving.Serving.resolve.Goals as goal
 

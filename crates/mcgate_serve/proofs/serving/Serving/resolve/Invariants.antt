@@ -1,6 +1,6 @@
 use Rattle.std.proofs.Common.{◌≡◌, length}
 use Rattle.serve_proxy.specs.Ends.{Stay}
-use Rattle.mcgate_serve.specs.LooksUp.{AreLookedUpTo}
+use Rattle.mcgate_serve.proofs.LookedUp.{AreLookedUpTo}
 use Rattle.mcgate_serve.proofs.serving.Serving.resolve.Given as goal
 
 abbrev pub invariant-loop-at : goal.invariant-loop-at
