@@ -230,7 +230,7 @@ fn settle_in(
 }
 
 // The answer in front is settled by a copy of its data, and is held no more; or what is left.
-fn settle_copied(
+fn take_copied(
     calls: &mut LinkCalls,
     core: &mut ServedCore,
     clients: &mut Clients,
@@ -291,7 +291,7 @@ fn left_after(stop: HeldStop, is_kept: bool) -> Left
 
 // Whole answers are settled, and long data of them share the buffer that they came in: what is left. Where memory is refused for that, the one in
 // front is settled by a copy.
-fn settle_long(
+fn take_long(
     calls: &mut LinkCalls,
     core: &mut ServedCore,
     clients: &mut Clients,
@@ -307,7 +307,7 @@ fn settle_long(
     ensures rest { HoldsAnew conn.old conn.new }
 {
     let Ok(front) = conn.held.freeze_to(conn.held.len()) else {
-        return settle_copied(calls, core, clients, is_freed, conn);
+        return take_copied(calls, core, clients, is_freed, conn);
     };
     let (used, stop) = settle_in(
         calls,
@@ -323,7 +323,7 @@ fn settle_long(
 
 // The answer in front, which takes so many bytes if it is spelled as usual, is settled, and its data share the buffer that they came in.
 // Where memory is refused for that, or it is spelled otherwise, they are copied.
-fn settle_large(
+fn take_large(
     calls: &mut LinkCalls,
     core: &mut ServedCore,
     clients: &mut Clients,
@@ -341,7 +341,7 @@ fn settle_large(
 {
     let len = len.min(conn.held.len());
     let Ok(front) = conn.held.freeze_to(len) else {
-        return settle_copied(calls, core, clients, is_freed, conn);
+        return take_copied(calls, core, clients, is_freed, conn);
     };
     let (used, _) = settle_in(
         calls,
@@ -355,7 +355,7 @@ fn settle_large(
         return Some(Left::NoMemory);
     }
     if used == 0 {
-        return settle_copied(calls, core, clients, is_freed, conn);
+        return take_copied(calls, core, clients, is_freed, conn);
     }
     None
 }
@@ -431,8 +431,8 @@ pub fn settle_held(
         conn.use_up(used);
         let left = match stop {
             HeldStop::Left(left) => Some(left),
-            HeldStop::Long => settle_long(calls, core, clients, is_freed, conn),
-            HeldStop::Large(len) => settle_large(calls, core, clients, is_freed, conn, len),
+            HeldStop::Long => take_long(calls, core, clients, is_freed, conn),
+            HeldStop::Large(len) => take_large(calls, core, clients, is_freed, conn, len),
         };
         if let Some(left) = left {
             return told(calls.len() < out, left, conn.held.as_slice());

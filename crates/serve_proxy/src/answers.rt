@@ -57,13 +57,13 @@ fn read_link<W: Wire>(core: &mut ServedCore, sockets: &mut Sockets<W>, at: usize
     ensures ends { AllGoUnless at result W.history core.old sockets.old core.new sockets.new }
 {
     match sockets.read_link_once(at) {
-        Some(got) => settle_read(core, sockets, at, got),
+        Some(got) => take_read(core, sockets, at, got),
         None => None,
     }
 }
 
 // A read of the link gave this, and all whole answers are settled. Why the link fails by that, if it does.
-fn settle_read<W: Wire>(
+fn take_read<W: Wire>(
     core: &mut ServedCore,
     sockets: &mut Sockets<W>,
     at: usize,
@@ -74,7 +74,7 @@ fn settle_read<W: Wire>(
     match got {
         Got::Bytes => {
             sockets.note_came(at);
-            learn_and_settle(core, sockets, at)
+            take_said_at(core, sockets, at)
         }
         Got::Nothing => sockets.read_in_vain(at),
         Got::Full => Some(Cause::NoRoom),
@@ -84,7 +84,7 @@ fn settle_read<W: Wire>(
 }
 
 // What the server says to what it was asked first comes before all answers to calls. Why the link fails by that, if it does.
-fn learn_and_settle<W: Wire>(
+fn take_said_at<W: Wire>(
     core: &mut ServedCore,
     sockets: &mut Sockets<W>,
     at: usize,
@@ -95,7 +95,7 @@ fn learn_and_settle<W: Wire>(
     let Some(link) = sockets.links.all.get_mut(at) else {
         return None;
     };
-    settle_line(
+    take_said(
         link,
         core,
         &mut sockets.clients,
@@ -111,7 +111,7 @@ fn awaits_other(link: &Link) -> bool {
 
 // What the server says to what it was asked first is taken from what the link holds, and then late answers, which are thrown away. All whole answers
 // that come after those are settled. Why the link fails by that, if it does.
-fn settle_line(
+fn take_said(
     link: &mut Link,
     core: &mut ServedCore,
     clients: &mut Clients,
@@ -135,11 +135,11 @@ fn settle_line(
             Left::NoMemory => Some(Cause::NoRoom),
         };
     }
-    settle_all(link, core, clients, is_freed, has_answered, polls)
+    take_answers(link, core, clients, is_freed, has_answered, polls)
 }
 
 // All whole answers are settled, after another whole answer or not. Why the link fails by that, if it does.
-fn settle_all(
+fn take_answers(
     link: &mut Link,
     core: &mut ServedCore,
     clients: &mut Clients,

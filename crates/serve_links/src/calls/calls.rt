@@ -439,7 +439,7 @@ impl LinkCalls {
 
     // The first call had this outcome: whose it was.
     #[tactic(auto, using(crate::proofs::CallOrder::popped, crate::proofs::CallOrder::fits_popped, crate::proofs::Counted::counts_first, crate::proofs::Counted::counts_none, crate::proofs::Counted::error_first, crate::proofs::Counted::error_none))]
-    fn settle_first(&mut self, core: &mut ServedCore, outcome: Outcome) -> Option<usize>
+    fn give_first(&mut self, core: &mut ServedCore, outcome: Outcome) -> Option<usize>
         requires { FitsFirst self.old.sent.items core.old.core outcome }
         ensures settles { SettlesFirst self.old.sent.items core.old outcome result self.new.sent.items core.new }
         ensures counts { self.new.times.tally ≡ with_first self.old.sent.items outcome self.old.times }
@@ -488,7 +488,7 @@ impl LinkCalls {
             AnswerRead::Foreign => Next::Left(Left::Foreign),
             AnswerRead::Answer(answer, used) => {
                 let expects = self.expects_after(used);
-                match self.settle_first(core, Outcome::Answered(answer)) {
+                match self.give_first(core, Outcome::Answered(answer)) {
                     Some(client) => {
                         self.expects = expects;
                         Next::Settled { client, used }
@@ -543,6 +543,6 @@ impl LinkCalls {
     pub fn fail_next(&mut self, core: &mut ServedCore) -> Option<usize>
         ensures { SettlesFirst self.old.sent.items core.old Failed result self.new.sent.items core.new }
     {
-        self.settle_first(core, Outcome::Failed)
+        self.give_first(core, Outcome::Failed)
     }
 }

@@ -47,16 +47,16 @@ loop-preserved c =
         rest = subst (λ (z : Conn). HoldsAnew c.args.conn.now z) (sym w.conn-is) anew;
       }
       | in-Long w ↦ record {
-        core = then (then core w.settle_long-left.ensures.core) (still w.core-is);
-        settled = both (both here (w.settle_long-left.ensures.settled (never_lost c.match-stop.left w.settle_long-left.result c.in_default.not-Some w.left-is))) (none (ap (λ q. q.sent.items) w.calls-is) (ap (λ z. z.held.items) w.conn-is) w.core-is);
-        ends = subst (λ (z : Clients). KeepsEnds c.args.clients.now z) (sym w.clients-is) (keeps_twice c.args.clients.now c.settle_in-used.new.clients w.settle_long-left.new.clients ends w.settle_long-left.ensures.ends);
-        rest = subst (λ (z : Conn). HoldsAnew c.args.conn.now z) (sym w.conn-is) (anew_twice c.args.conn.now c.use_up.new.self w.settle_long-left.new.conn anew w.settle_long-left.ensures.rest);
+        core = then (then core w.take_long-left.ensures.core) (still w.core-is);
+        settled = both (both here (w.take_long-left.ensures.settled (never_lost c.match-stop.left w.take_long-left.result c.in_default.not-Some w.left-is))) (none (ap (λ q. q.sent.items) w.calls-is) (ap (λ z. z.held.items) w.conn-is) w.core-is);
+        ends = subst (λ (z : Clients). KeepsEnds c.args.clients.now z) (sym w.clients-is) (keeps_twice c.args.clients.now c.settle_in-used.new.clients w.take_long-left.new.clients ends w.take_long-left.ensures.ends);
+        rest = subst (λ (z : Conn). HoldsAnew c.args.conn.now z) (sym w.conn-is) (anew_twice c.args.conn.now c.use_up.new.self w.take_long-left.new.conn anew w.take_long-left.ensures.rest);
       }
       | in-Large w ↦ record {
-        core = then (then core w.settle_large-left.ensures.core) (still w.core-is);
-        settled = both (both here (w.settle_large-left.ensures.settled (never_lost c.match-stop.left w.settle_large-left.result c.in_default.not-Some w.left-is))) (none (ap (λ q. q.sent.items) w.calls-is) (ap (λ z. z.held.items) w.conn-is) w.core-is);
-        ends = subst (λ (z : Clients). KeepsEnds c.args.clients.now z) (sym w.clients-is) (keeps_twice c.args.clients.now c.settle_in-used.new.clients w.settle_large-left.new.clients ends w.settle_large-left.ensures.ends);
-        rest = subst (λ (z : Conn). HoldsAnew c.args.conn.now z) (sym w.conn-is) (anew_twice c.args.conn.now c.use_up.new.self w.settle_large-left.new.conn anew w.settle_large-left.ensures.rest);
+        core = then (then core w.take_large-left.ensures.core) (still w.core-is);
+        settled = both (both here (w.take_large-left.ensures.settled (never_lost c.match-stop.left w.take_large-left.result c.in_default.not-Some w.left-is))) (none (ap (λ q. q.sent.items) w.calls-is) (ap (λ z. z.held.items) w.conn-is) w.core-is);
+        ends = subst (λ (z : Clients). KeepsEnds c.args.clients.now z) (sym w.clients-is) (keeps_twice c.args.clients.now c.settle_in-used.new.clients w.take_large-left.new.clients ends w.take_large-left.ensures.ends);
+        rest = subst (λ (z : Conn). HoldsAnew c.args.conn.now z) (sym w.conn-is) (anew_twice c.args.conn.now c.use_up.new.self w.take_large-left.new.conn anew w.take_large-left.ensures.rest);
       }
     ]
 
@@ -65,8 +65,8 @@ returns-in-Some-clause-core c =
     let core = then c.loop.invariant.core c.settle_in-used.ensures.core in
     elim c.match-stop.branch [
       | in-Left w ↦ then core (still w.core-is)
-      | in-Long w ↦ then (then core w.settle_long-left.ensures.core) (still w.core-is)
-      | in-Large w ↦ then (then core w.settle_large-left.ensures.core) (still w.core-is)
+      | in-Long w ↦ then (then core w.take_long-left.ensures.core) (still w.core-is)
+      | in-Large w ↦ then (then core w.take_large-left.ensures.core) (still w.core-is)
     ]
 
 pub returns-in-Some-clause-settled : goal.returns-in-Some-clause-settled
@@ -76,8 +76,8 @@ returns-in-Some-clause-settled c =
     let here = both c.loop.invariant.settled (between same rest c.settle_in-used.ensures.settled) in
     λ kept. elim c.match-stop.branch [
       | in-Left w ↦ both here (none (ap (λ q. q.sent.items) w.calls-is) (ap (λ z. z.held.items) w.conn-is) w.core-is)
-      | in-Long w ↦ both (both here (w.settle_long-left.ensures.settled (not_lost c.match-stop.left w.settle_long-left.result c.in-Some.left c.told.result.left kept c.told.ensures c.in-Some.is w.left-is))) (none (ap (λ q. q.sent.items) w.calls-is) (ap (λ z. z.held.items) w.conn-is) w.core-is)
-      | in-Large w ↦ both (both here (w.settle_large-left.ensures.settled (not_lost c.match-stop.left w.settle_large-left.result c.in-Some.left c.told.result.left kept c.told.ensures c.in-Some.is w.left-is))) (none (ap (λ q. q.sent.items) w.calls-is) (ap (λ z. z.held.items) w.conn-is) w.core-is)
+      | in-Long w ↦ both (both here (w.take_long-left.ensures.settled (not_lost c.match-stop.left w.take_long-left.result c.in-Some.left c.told.result.left kept c.told.ensures c.in-Some.is w.left-is))) (none (ap (λ q. q.sent.items) w.calls-is) (ap (λ z. z.held.items) w.conn-is) w.core-is)
+      | in-Large w ↦ both (both here (w.take_large-left.ensures.settled (not_lost c.match-stop.left w.take_large-left.result c.in-Some.left c.told.result.left kept c.told.ensures c.in-Some.is w.left-is))) (none (ap (λ q. q.sent.items) w.calls-is) (ap (λ z. z.held.items) w.conn-is) w.core-is)
     ]
 
 pub returns-in-Some-clause-front : goal.returns-in-Some-clause-front
@@ -87,8 +87,8 @@ returns-in-Some-clause-front c =
     let here = both c.loop.invariant.settled (between same rest c.settle_in-used.ensures.settled) in
     elim c.match-stop.branch [
       | in-Left w ↦ front_then here (none_front (ap (λ q. q.sent.items) w.calls-is) w.core-is)
-      | in-Long w ↦ front_then here (front_to (ap (λ q. q.sent.items) w.calls-is) w.core-is w.settle_long-left.ensures.front)
-      | in-Large w ↦ front_then here (front_to (ap (λ q. q.sent.items) w.calls-is) w.core-is w.settle_large-left.ensures.front)
+      | in-Long w ↦ front_then here (front_to (ap (λ q. q.sent.items) w.calls-is) w.core-is w.take_long-left.ensures.front)
+      | in-Large w ↦ front_then here (front_to (ap (λ q. q.sent.items) w.calls-is) w.core-is w.take_large-left.ensures.front)
     ]
 
 pub returns-in-Some-clause-ends : goal.returns-in-Some-clause-ends
@@ -96,6 +96,6 @@ returns-in-Some-clause-ends c =
     let ends = keeps_twice c.args.clients.now c.loop.clients c.settle_in-used.new.clients c.loop.invariant.ends c.settle_in-used.ensures.ends in
     elim c.match-stop.branch [
       | in-Left w ↦ subst (λ (z : Clients). KeepsEnds c.args.clients.now z) (sym w.clients-is) ends
-      | in-Long w ↦ subst (λ (z : Clients). KeepsEnds c.args.clients.now z) (sym w.clients-is) (keeps_twice c.args.clients.now c.settle_in-used.new.clients w.settle_long-left.new.clients ends w.settle_long-left.ensures.ends)
-      | in-Large w ↦ subst (λ (z : Clients). KeepsEnds c.args.clients.now z) (sym w.clients-is) (keeps_twice c.args.clients.now c.settle_in-used.new.clients w.settle_large-left.new.clients ends w.settle_large-left.ensures.ends)
+      | in-Long w ↦ subst (λ (z : Clients). KeepsEnds c.args.clients.now z) (sym w.clients-is) (keeps_twice c.args.clients.now c.settle_in-used.new.clients w.take_long-left.new.clients ends w.take_long-left.ensures.ends)
+      | in-Large w ↦ subst (λ (z : Clients). KeepsEnds c.args.clients.now z) (sym w.clients-is) (keeps_twice c.args.clients.now c.settle_in-used.new.clients w.take_large-left.new.clients ends w.take_large-left.ensures.ends)
     ]

@@ -2,7 +2,7 @@ use Rattle.std.proofs.Common.{◌≡◌, ℕ, List, Some, drop, sym, ap, ◌∙�
 use Rattle.serve_links.specs.declared.calls.calls.Left.{Left}
 use Rattle.serve_links.specs.declared.calls.calls.Left.TheVariants as lefts
 use Rattle.serve_links.proofs.Leaving.{cut_apart, over, between, foreign_over, foreign_as, front_over, front_as}
-use Rattle.serve_links.proofs.outcomes.settle_long.Goals as goal
+use Rattle.serve_links.proofs.outcomes.take_long.Goals as goal
 
 same_left : {a b : Left} → Some a ≡ Some b → a ≡ b
 same_left e = cc

@@ -9,7 +9,7 @@ use Rattle.serve_links.proofs.Foreign.{line_foreign}
 use Rattle.serve_links.proofs.LinkGoes.{line_keeps}
 use Rattle.serve_proxy.proofs.Linking.{settled, settled_some}
 use Rattle.serve_proxy.proofs.GivenUp.{no_room_goes, vain_goes}
-use Rattle.serve_proxy.proofs.answers.settle_all.Goals as goal
+use Rattle.serve_proxy.proofs.answers.take_answers.Goals as goal
 
 none_lost : lefts.Begun ≡ lefts.NoMemory → ⊥
 none_lost e = cc

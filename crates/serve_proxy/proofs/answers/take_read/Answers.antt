@@ -6,10 +6,10 @@ use Rattle.serve_links.proofs.Story.{go_between}
 use Rattle.serve_proxy.proofs.Going.{and_then, failing, stays}
 use Rattle.serve_proxy.proofs.GivenUp.{as_before, no_room_at, given_by}
 use Rattle.serve_proxy.specs.Ends.{end_of}
-use Rattle.serve_proxy.proofs.answers.settle_read.Goals as goal
+use Rattle.serve_proxy.proofs.answers.take_read.Goals as goal
 
 pub returns-in-Bytes : goal.returns-in-Bytes
-returns-in-Bytes g c = record { ends = given_by c.args.at c.args.got got.Bytes c.in-Bytes.is (and_then (stays c.args.core.now c.note_came.ensures.ends) c.learn_and_settle.ensures.ends) }
+returns-in-Bytes g c = record { ends = given_by c.args.at c.args.got got.Bytes c.in-Bytes.is (and_then (stays c.args.core.now c.note_came.ensures.ends) c.take_said_at.ensures.ends) }
 
 pub returns-in-Nothing : goal.returns-in-Nothing
 returns-in-Nothing g c = record { ends = given_by c.args.at c.args.got got.Nothing c.in-Nothing.is (failing (c.read_in_vain.ensures.ends c.args.core.now)) }

@@ -3,7 +3,7 @@ use Rattle.serve_links.specs.declared.calls.calls.Left.{Left}
 use Rattle.serve_links.specs.declared.calls.calls.Next.TheVariants as nexts
 use Rattle.serve_links.proofs.Walked.{by_settle_next}
 use Rattle.serve_links.proofs.Leaving.{settles_as, awaited, some_held, foreign, none, one, none_front, front_next}
-use Rattle.serve_links.proofs.outcomes.settle_copied.Goals as goal
+use Rattle.serve_links.proofs.outcomes.take_copied.Goals as goal
 
 same_left : {a b : Left} → Some a ≡ Some b → a ≡ b
 same_left e = cc

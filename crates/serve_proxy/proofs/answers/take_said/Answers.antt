@@ -6,7 +6,7 @@ use Rattle.serve_links.proofs.LinkGoes.{line_then, line_learns, line_keeps}
 use Rattle.serve_links.proofs.Foreign.{foreign_goes}
 use Rattle.serve_proxy.proofs.Linking.{line_may_lose}
 use Rattle.serve_proxy.proofs.GivenUp.{no_room_goes, vain_goes}
-use Rattle.serve_proxy.proofs.answers.settle_line.Goals as goal
+use Rattle.serve_proxy.proofs.answers.take_said.Goals as goal
 
 pub returns-then-not-learn : goal.returns-then-not-learn
 returns-then-not-learn c = record {
@@ -44,6 +44,6 @@ returns-in-NoMemory c = record {
 
 pub returns : goal.returns
 returns c = record {
-  goes = λ at h. line_then (line_then (line_learns c.args.link.now c.learn.new.self c.learn.result c.learn.ensures.learns) (c.throw_late.ensures.goes at c.args.core.now h)) (c.settle_all.ensures.goes at h);
-  ends = c.settle_all.ensures.ends;
+  goes = λ at h. line_then (line_then (line_learns c.args.link.now c.learn.new.self c.learn.result c.learn.ensures.learns) (c.throw_late.ensures.goes at c.args.core.now h)) (c.take_answers.ensures.goes at h);
+  ends = c.take_answers.ensures.ends;
 }
