@@ -37,7 +37,7 @@ fn push_first_line_hint(
     Ok(())
 }
 
-/// The same of a script, whose first line is to be a configuration.
+/// Lines of detail on a script, whose first line is to be a configuration.
 pub fn lines_of_script(alloc: Global, file: &str, text: &str) -> Result<Vec<String>, AllocError> {
     let line = front_of(text).line;
     let mut lines = Vec::new(alloc);

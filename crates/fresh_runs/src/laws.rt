@@ -32,7 +32,8 @@ pub fn covered_is_fresh<W: HasWords>()
     ensures { CoveredIsFresh W.words }
 {}
 
-/// The same, whatever else commands bar from their keys.
+/// Where deletes clear what later commands take, every run in which nobody else writes the servers is fresh, also where commands bar
+/// others from their keys.
 pub fn shared_is_fresh<W: HasWords>()
     ensures { SharedIsFresh W.words W.bars }
 {}

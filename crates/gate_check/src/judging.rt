@@ -17,7 +17,7 @@ use route_json::Config;
 use route_tree::{Place, Tree};
 use std::alloc::Global;
 
-/// Looks at all places of the configuration's tree, and takes no memory for them.
+/// Looks at all places of the configuration's tree, and takes no memory for them. Of a tree that it accepts all runs are fresh.
 ///
 /// Memory aside, it accepts exactly the trees of at most 262,144 places for which some certificate is valid, and never
 /// answers `BadCertificate`. Else the configuration is given back with the reason.

@@ -48,7 +48,7 @@ pub fn grown_generations_are_fresh<W: HasBars>()
     ensures { GrownGenerationsAreFresh W.bars }
 {}
 
-/// The same with just what copies barring deletes, and by numbers where a key has one command at a time.
+/// Every run over sound generations is fresh where just what copies bars deletes, and by numbers where a key has one command at a time.
 pub fn grown_runs_of_trees_are_fresh()
     ensures { GrownRunsOfTreesAreFresh }
 {}

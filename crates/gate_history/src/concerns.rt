@@ -196,7 +196,7 @@ fn multiple_of(modulus: u32, sizes: &[usize]) -> Option<u32>
     }
 }
 
-// The same of a tree's pools.
+// The least common multiple of this number and the lengths of a tree's pools; `None` where it is too large.
 fn widened(alloc: Global, modulus: u32, tree: &Tree) -> Result<Option<u32>, AllocError> {
     if modulus == 0 || modulus > PLACE_LIMIT {
         return Ok(None);

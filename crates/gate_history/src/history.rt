@@ -94,7 +94,7 @@ impl History {
         take_next(alloc, &mut self.ledger, &mut self.generations, config, new)
     }
 
-    /// The same with the configuration as the next generation, where it may be.
+    /// The history with the configuration as the next generation, where it may be. Its new servers began so.
     pub fn with(self, alloc: Global, config: Config, new: Beginning) -> Result<History, Unsound>
         ensures with { IfOk result (λ history. history ≡ self ++ record { config = config; began = new } ∷ []) }
         ensures refused { IfErr result (λ unsound. IsUnsoundAfter self config new unsound) }

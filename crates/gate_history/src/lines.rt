@@ -47,7 +47,7 @@ pub fn cut_line(text: &str) -> Option<(&str, &str)>
     text.split_once('\n')
 }
 
-// The same at the first comma.
+// The text before the first comma and what follows it; `None` where there is none.
 fn cut_comma(text: &str) -> Option<(&str, &str)>
     ensures { MatchOption result (Lacks 44 text.now) (λ cut. IsCutAt 44 text.now cut.0.now cut.1.now) }
 {

@@ -99,7 +99,7 @@ fn remembered_of(now: Option<LeftAt>, later: Option<LeftAt>) -> State
     }
 }
 
-// The same of each server.
+// What is remembered of each server.
 fn all_remembered(
     alloc: Global,
     now: &[Option<LeftAt>],

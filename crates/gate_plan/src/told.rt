@@ -347,7 +347,7 @@ fn no_first(fault: &StepFault) -> io::Result<Planned>
     }
 }
 
-/// The same where the configuration in use is the first one, and its servers began so.
+/// Writes the plan from the configuration in use to the new one, where the one in use is the first, and its servers began so.
 pub fn write_plan_from<W: Write>(
     alloc: Global,
     old: &str,

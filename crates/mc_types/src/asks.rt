@@ -270,7 +270,7 @@ fn has_shape(ask: &Ask) -> bool
     }
 }
 
-/// Whether the ask is one that a client can write. Each ask of a core is, which its tickets and calls keep; a memcached server in memory tests it.
+/// Whether the ask is one that a client can write. Each ask that was read is, and its tickets and calls keep that, so that nothing has to test it.
 #[tactic(auto, using(crate::proofs::AskTest::too_long))]
 pub fn is_ask(ask: &Ask) -> bool
     ensures { IsTrue result ↔ IsAsk ask.now }

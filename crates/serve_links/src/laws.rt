@@ -29,7 +29,7 @@ pub fn steps_are_counted()
     ensures { StepsAreCounted }
 {}
 
-/// The same of each server: in an orderly walk, what a core counts of a server's calls is how many of it the polls gave out, and how many of those were
+/// In an orderly walk, what a core counts of a server's calls is how many of it the polls gave out, and how many of those were
 /// answered and have failed. It is so where no call was counted at no server ([`core_accepted::CoreTally::unplaced`]): while memory for the counts was
 /// refused, or for a server that no configuration has.
 pub fn steps_are_counted_by_server()

@@ -269,7 +269,7 @@ fn hold_rest(conn: &mut Conn, front: &Bytes, used: usize) -> bool
     conn.hold_again(rest, ROOM_AFTER).is_ok()
 }
 
-// The same where they have more, and else nothing is done.
+// What these bytes have besides so many, if they have more, is held again. Whether memory was there for that.
 fn hold_any(conn: &mut Conn, front: &Bytes, used: usize) -> bool
     ensures held { result ≡ true → conn.new.held.items ≡ drop used front.now ++ conn.old.held.items }
     ensures rest { HoldsAnew conn.old conn.new }

@@ -29,7 +29,7 @@ pub trait Wire {
     fn last_millis(&self) -> u64
         ensures { result ≡ time (history self.now) };
 
-    /// The same in microseconds.
+    /// What the clock showed last, in microseconds.
     fn last_micros(&self) -> u64;
 
     /// Waits until something is ready, and this long at most: how many reports there are.

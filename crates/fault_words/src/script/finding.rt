@@ -153,7 +153,7 @@ pub fn bad_line_in_script(alloc: Global, text: &str) -> Result<Option<BadLine<'_
     }
 }
 
-/// The same of a script without a configuration, over a configuration from elsewhere.
+/// The first bad line of a script without a configuration, over a configuration from elsewhere.
 ///
 /// Source: mcgate's own.
 pub fn bad_line_in_events<'a>(

@@ -22,7 +22,7 @@ pub fn puts(seen: Seen, server: ServerId) -> bool
     is_put_on(seen, server)
 }
 
-/// The same as is computed. It takes no memory.
+/// Whether some call can put an item on the server, as specs compute it. It takes no memory.
 pub fn is_put_on(seen: Seen, server: ServerId) -> bool
     ensures { result ≡ puts (plan_of seen.entry) server }
 {

@@ -46,7 +46,8 @@ pub fn grown_is_fresh<W: HasOpening>()
     ensures { GrownIsFresh W.words W.bars W.opening }
 {}
 
-/// The same by numbers, where each command has its key alone.
+/// Where each server that a later command takes is cleared by the delete, or nothing was stored there before the delete began, such a run
+/// is fresh by numbers, too, where each command has its key alone.
 pub fn grown_is_fresh_by_number<W: HasOpening>()
     ensures { GrownIsFreshByNumber W.words W.bars W.opening }
 {}

@@ -128,7 +128,7 @@ impl Open {
         outcome
     }
 
-    /// The same of several pieces.
+    /// Several pieces are written, as many of their first bytes as are taken at once.
     pub fn write_parts(&self, log: &mut Record, parts: &[IoSlice<'_>]) -> WriteOutcome
         ensures { Writes self.now.number result (io_slices_bytes parts.now) log.old.events log.new.events }
     {

@@ -185,7 +185,7 @@ fn open_at(open: &Slab<Open>, count: usize, conn: usize) -> Option<&Open>
     Some(found)
 }
 
-// The same, to be changed.
+// The stream of this connection, if it is in use, to be changed.
 fn open_at_mut(open: &mut Slab<Open>, count: usize, conn: usize) -> Option<&mut Open>
     ensures { OnSome result (conn < count * 16777216) }
 {

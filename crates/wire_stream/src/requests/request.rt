@@ -91,7 +91,7 @@ impl Request {
         }
     }
 
-    /// The ask of this number, asks_taken from 0: a copy, in the memory of the spare one where nobody else holds that, whose data may share the
+    /// The ask of this number, counted from 0: a copy, in the memory of the spare one where nobody else holds that, whose data may share the
     /// buffer that they came in. It walks over the keys before it; a walk over all asks is `walk`. The only error is running out of memory.
     pub fn ask(
         &self,
