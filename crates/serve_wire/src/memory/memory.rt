@@ -46,7 +46,7 @@ enum Owner {
 
 // A connection that was made.
 #[derive(Drop)]
-struct Joined {
+struct MadeConn {
     peer: Peer,
     owner: Owner,
     is_open: bool,
@@ -77,7 +77,7 @@ pub struct Memory {
     callers: VecDeque<Caller>,
     is_caller_told: bool,
     hosts: Vec<Host>,
-    lines: Vec<Joined>,
+    lines: Vec<MadeConn>,
     // How many connections were made.
     count: usize,
     reports: Vec<Report>,
@@ -101,7 +101,7 @@ fn millis_of(limit: Duration) -> u64 {
 }
 
 // What a wait tells of a connection.
-fn report_of(line: &mut Joined, now: u64) -> Option<Report> {
+fn report_of(line: &mut MadeConn, now: u64) -> Option<Report> {
     if !line.is_open {
         return None;
     }
@@ -114,7 +114,7 @@ fn report_of(line: &mut Joined, now: u64) -> Option<Report> {
 
 fn put_reports(
     reports: &mut Vec<Report>,
-    lines: &mut Vec<Joined>,
+    lines: &mut Vec<MadeConn>,
     now: u64,
 ) -> Result<(), AllocError> {
     for line in lines.iter_mut() {
@@ -126,7 +126,7 @@ fn put_reports(
 }
 
 // When a far end does more by itself.
-fn wakes_at(lines: &Vec<Joined>) -> Option<u64> {
+fn wakes_at(lines: &Vec<MadeConn>) -> Option<u64> {
     let mut first = None;
     for line in lines.as_slice() {
         if line.is_open {
@@ -177,7 +177,7 @@ fn next_peer(hosts: &mut Vec<Host>, text: &[u8]) -> Result<Peer, Fault> {
     }
 }
 
-fn peer_of(lines: &mut Vec<Joined>, name: u32) -> Option<&mut Peer> {
+fn peer_of(lines: &mut Vec<MadeConn>, name: u32) -> Option<&mut Peer> {
     for line in lines.iter_mut() {
         if line.peer.name == name {
             return Some(&mut line.peer);
@@ -333,7 +333,7 @@ impl Memory {
         let is_open = true;
         if self
             .lines
-            .push(Joined {
+            .push(MadeConn {
                 peer,
                 owner,
                 is_open,
@@ -348,12 +348,12 @@ impl Memory {
 }
 
 // The connection of this number, if it is open.
-fn line_at(lines: &mut Vec<Joined>, conn: usize) -> Option<&mut Joined> {
+fn line_at(lines: &mut Vec<MadeConn>, conn: usize) -> Option<&mut MadeConn> {
     let line = lines.get_mut(conn)?;
     if line.is_open { Some(line) } else { None }
 }
 
-fn read_line(lines: &mut Vec<Joined>, conn: usize, now: u64, into: &mut BytesMut) -> ReadOutcome
+fn read_line(lines: &mut Vec<MadeConn>, conn: usize, now: u64, into: &mut BytesMut) -> ReadOutcome
     requires { 0 < into.old.spare }
     ensures { Adds result into.old.items into.new.items into.old.spare into.new.spare }
 {
@@ -363,7 +363,7 @@ fn read_line(lines: &mut Vec<Joined>, conn: usize, now: u64, into: &mut BytesMut
     }
 }
 
-fn write_line(lines: &mut Vec<Joined>, conn: usize, now: u64, bytes: &[u8]) -> WriteOutcome
+fn write_line(lines: &mut Vec<MadeConn>, conn: usize, now: u64, bytes: &[u8]) -> WriteOutcome
     ensures { FitsOffer result bytes.now }
 {
     match line_at(lines, conn) {
@@ -373,7 +373,7 @@ fn write_line(lines: &mut Vec<Joined>, conn: usize, now: u64, bytes: &[u8]) -> W
 }
 
 // Whether there was one, whose it is now.
-fn give_line(lines: &mut Vec<Joined>, conn: usize, owner: Owner) -> bool {
+fn give_line(lines: &mut Vec<MadeConn>, conn: usize, owner: Owner) -> bool {
     match line_at(lines, conn) {
         Some(line) => {
             line.owner = owner;
@@ -383,13 +383,13 @@ fn give_line(lines: &mut Vec<Joined>, conn: usize, owner: Owner) -> bool {
     }
 }
 
-fn close_line(lines: &mut Vec<Joined>, conn: usize) {
+fn close_line(lines: &mut Vec<MadeConn>, conn: usize) {
     if let Some(line) = lines.get_mut(conn) {
         line.is_open = false;
     }
 }
 
-fn shut_line(lines: &mut Vec<Joined>, conn: usize) {
+fn shut_line(lines: &mut Vec<MadeConn>, conn: usize) {
     if let Some(line) = line_at(lines, conn) {
         line.peer.shut();
     }
