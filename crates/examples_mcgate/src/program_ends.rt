@@ -684,7 +684,7 @@ fn told_of_address(alloc: Global, kind: ErrorKind, address: &str) -> Result<Stri
     joined(alloc, &details)
 }
 
-// The same of a path.
+// What is said of a path and an error of the system.
 fn told_of_path(alloc: Global, kind: ErrorKind, path: &str) -> Result<String, AllocError> {
     let mut details = Details::new(alloc);
     details.add_path(alloc, path, &io::Error::from(kind));
@@ -830,7 +830,7 @@ replay f => {"type":"PrefixSelectorRoute","policies":{"x":"PoolRoute|B"},"wildca
 replay => {"type":"MissFailoverRoute","children":["PoolRoute|B","PoolRoute|A"]}"#
 }
 
-// What is said of them, two lines each.
+// What is said of the refused trees, two lines each.
 fn refusals() -> &'static str {
     "mcgate: f: server 1 is b:1 (pool B, place 1 of 1): get can show or copy what it holds, and delete can be acknowledged without clearing it
 mcgate: f: deletes of these keys go by /route/operation_policies/delete: PoolRoute A; to change: it lacks b:1 (pool B, place 1 of 1): put an AllSyncRoute there, over it and a route to that server; mcgate check --explain f says more

@@ -113,5 +113,5 @@ pub fn drop_ask(_ask: Ask) {}
 /// Drops an answer by a call, so that its many ways to end don't stand in the caller's proof.
 pub fn drop_answer(_answer: Answer) {}
 
-/// The same of what came of a call.
+/// Drops an outcome by a call, so that its many ways to end don't stand in the caller's proof.
 pub fn drop_outcome(_outcome: Outcome) {}

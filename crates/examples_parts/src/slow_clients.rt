@@ -57,8 +57,8 @@ What came before the end is answered, and nothing after it.
 0 taken => END|END|"
 }
 
-// The same with items of 1 MiB. `values K N` and `replies K N` let the client take as many bytes as the value of a key is shown by, without END or with
-// it, N times, and say how often these were its bytes.
+// Examples as in `texts`, with items of 1 MiB. `values K N` and `replies K N` let the client take as many bytes as the value of a key is
+// shown by, without END or with it, N times, and say how often these were its bytes.
 fn large() -> &'static str {
     r"Gets of 1 MiB by a client that takes nothing, while another is answered; then it takes some.
 1048576

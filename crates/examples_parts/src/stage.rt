@@ -435,7 +435,7 @@ impl CoreStage {
         }
     }
 
-    // The same, but with a ticket that this core didn't give out.
+    // What the core says where a call is to fail by a ticket of this number that it didn't give out.
     fn forge(&mut self, number: u64) -> Result<ToldReply, Fail> {
         let ticket = forged(self.alloc, number)?;
         Ok(done(self.core.fail(ticket)))

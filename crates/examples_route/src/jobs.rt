@@ -90,7 +90,7 @@ fn route_of(name: &str) -> &'static str {
     }
 }
 
-// As before: deletes go to both servers, all else by the default.
+// The route of this name: deletes go to both servers, all else by the default.
 fn route_with_deletes(name: &str) -> &'static str {
     match name {
         "by_operation" =>

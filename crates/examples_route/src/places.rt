@@ -207,7 +207,7 @@ fn told_of_class(alloc: Global, class: &ClassRows, index: usize) -> Result<Strin
     }
 }
 
-// Of the index, ` of class `, and the class.
+// What is told of the index, ` of class `, and the class.
 fn told_of_runs(
     alloc: Global,
     certificate: &Certificate,
@@ -247,7 +247,7 @@ fn is_so(plain: &Plain, by: &str, server: ServerId) -> bool {
     }
 }
 
-// Those of the servers of which it is so.
+// Those of the servers that the read takes, or the delete clears.
 fn told_of_plain(
     alloc: Global,
     plain: &Plain,

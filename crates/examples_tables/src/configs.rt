@@ -16,7 +16,7 @@ fn leak() -> &'static str {
     r#"{"type":"FailoverRoute","children":["PoolRoute|A","PoolRoute|B"]}"#
 }
 
-// The same, and deletes go to both.
+// Gets fail over from A to B, and deletes go to both.
 fn failover() -> &'static str {
     r#"{"type":"OperationSelectorRoute","default_policy":{"type":"FailoverRoute","children":["PoolRoute|A","PoolRoute|B"]},"operation_policies":{"delete":{"type":"AllSyncRoute","children":["PoolRoute|A","PoolRoute|B"]}}}"#
 }

@@ -79,7 +79,7 @@ pub fn unfolded(alloc: Global, text: &str) -> Result<String, AllocError> {
     Ok(lines)
 }
 
-// As `configuration` says.
+// Writes the configuration of a route over the pools A and B.
 fn push_configuration(out: &mut String, route: &str) -> Result<(), AllocError> {
     out.push_str(
         r#"{"pools":{"A":{"servers":["127.0.0.1:5001"]},"B":{"servers":["127.0.0.1:5002"]}},"route":"#,

@@ -7,7 +7,7 @@ use Rattle.mcgate_args.specs.declared.ends.Stop.{Stop}
 use Rattle.mcgate.specs.declared.serve.Judged.{Judged}
 use Rattle.mcgate.specs.Certified.{JudgesBy}
 
--- of one that was given back
+-- what is told of an equal configuration that was given back is told of this one
 pub given_back : (config given : Configuration) (certificate : List ℕ) (why : Unverified) (old new : Option (List ℕ)) (r : Result Judged Stop) → given ≡ config → IsUnverified config.tree certificate why
     → ((t : List ℕ) → IsUnverified given.tree t why → JudgesBy given t old new r) → JudgesBy config certificate old new r
 given_back config given certificate why old new r same h f =

@@ -71,11 +71,11 @@ has_freshly : (servable : Servable) (begun : Beginnings) (settings : Settings) (
 has_freshly (servables.Accepted accepted) begun settings steps a b begins walks fresh = (begins.config, begins.last, walks_are_fresh steps a b walks fresh begins.config begun ([], begins.word))
 has_freshly (servables.Unchecked configuration) begun settings steps a b begins walks fresh = tt
 
--- also where servers apply late what had failed
+-- on accepted trees each log and each run is fresh also where servers apply late what had failed
 late_since : (first : Configuration) (begun : Beginnings) (b : ServedCore) → TreesAreSound b → IsAcceptedSince first begun b → begun ≡ any_begun → EveryLateLogIsFresh b × EveryLateRunIsFresh b
 late_since first begun b sound is any = late_core b sound (record (first_of first begun) { configs = first ∷ is.0 }, is.1, any)
 
--- over the connections of its steps
+-- where the gate accepted, logs go on freshly by these steps also where servers apply late, over the connections of these, what had failed
 has_freshly_late :
     (servable : Servable) (begun : Beginnings) (settings : Settings) (steps : List Step) (a b : ServedCore) → BeginsBy servable begun settings a → Walks steps a b → TellsCallsOut [] a → IsOrderly steps → TreesAreSound b
     → GoFreshlyLate servable begun steps a b
@@ -91,13 +91,13 @@ nothing_done_by (servables.Unchecked configuration) begun settings core begins =
 has_counted : (steps : List Step) (first last : ServedCore) → MakesPlaces nothing_done first.tally → Walks steps first last → AreCounted steps last.tally
 has_counted steps first last none walks = subst (λ l. AreCounted l last.tally) (append-nil steps) (steps_are_counted.goes_on steps [] first last walks (steps_are_counted.begins first.tally none))
 
--- the results too, of calls that were out
+-- the results are counted of calls that were out
 has_results : (steps : List Step) (first last : ServedCore) → MakesPlaces nothing_done first.tally → Walks steps first last → TellsCallsOut [] first → IsOrderly steps → ResultsAreCounted steps last.tally
 has_results steps first last none walks tells orderly =
     subst (λ l. ResultsAreCounted l last.tally) (append-nil steps)
     (steps_are_counted.results_go_on steps [] first last walks tells (subst IsOrderly (sym (append-nil steps)) orderly) (steps_are_counted.results_begin first.tally none))
 
--- and the calls of each server
+-- the calls of each server are counted
 has_counted_by_server :
     (steps : List Step) (first last : ServedCore) → MakesPlaces nothing_done first.tally → Walks steps first last → TellsCallsOut [] first → IsOrderly steps → AreCountedByServer steps last.tally
 has_counted_by_server steps first last none walks tells orderly =

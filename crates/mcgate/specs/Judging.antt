@@ -17,7 +17,7 @@ abbrev pub MayBeServed : Bool → Configuration → Servable → Type 0
 MayBeServed any configuration (servables.Accepted accepted) = (any ≡ false) × (accepted ≡ configuration ∷ []) × IsCertified configuration.tree
 MayBeServed any configuration (servables.Unchecked unchecked) = (any ≡ true) × (unchecked ≡ configuration)
 
--- it may be, and nothing was written; or it was written why it is refused; or memory or the writer failed
+-- this configuration may be served, and nothing was written; or it was written why it is refused; or memory or the writer failed
 abbrev pub JudgesToServe : Bool → Configuration → Option (List ℕ) → Option (List ℕ) → Result Judged Stop → Type 0
 JudgesToServe any configuration old new (Ok (judgements.Servable servable)) = MayBeServed any configuration servable × (new ≡ old)
 JudgesToServe any configuration old new (Ok (judgements.Printed status)) = (any ≡ false) × (status ≡ 1) × PrintsRefused configuration old new

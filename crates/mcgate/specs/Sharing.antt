@@ -18,17 +18,17 @@ abbrev mutual
   has_warm_up (ByOperation ps) = policies_have_warm_up ps
   has_warm_up (ByPrefix ps) = prefixes_have_warm_up ps
 
-  -- one of these children has one
+  -- one of these children has a warm-up
   pub have_warm_up : Routes → Bool
   have_warm_up End = false
   have_warm_up (More r rs) = has_warm_up r || have_warm_up rs
 
-  -- one of them by operation
+  -- one of these policies by operation has a warm-up
   pub policies_have_warm_up : Policies → Bool
   policies_have_warm_up (Otherwise r) = has_warm_up r
   policies_have_warm_up (Policy op r ps) = has_warm_up r || policies_have_warm_up ps
 
-  -- one of them by prefix
+  -- one of these policies by prefix has a warm-up
   pub prefixes_have_warm_up : Prefixes → Bool
   prefixes_have_warm_up (Wildcard r) = has_warm_up r
   prefixes_have_warm_up (Prefix text r ps) = has_warm_up r || prefixes_have_warm_up ps

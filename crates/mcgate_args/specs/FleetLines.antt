@@ -65,17 +65,17 @@ module _ (text : List ℕ) where
     copy_path (ByOperation ps) = copy_path_by ps
     copy_path (ByPrefix ps) = copy_path_begun (longest_begun text ps) ps
 
-    -- by the first of the children by which a get copies, counted from this index on
+    -- the path through the first of the children by which a get copies, counted from this index on
     pub copy_path_in : ℕ → Routes → List ℕ
     copy_path_in index End = []
     copy_path_in index (More r rs) = if may_copy Get (plain_for 0 text r) then step_to_child index ++ copy_path r else copy_path_in (index + 1) rs
 
-    -- by the policy of gets, else by the default
+    -- the path through the policy of gets, else through the default
     pub copy_path_by : Policies → List ℕ
     copy_path_by (Otherwise r) = copy_step_text steps.Default ++ copy_path r
     copy_path_by (Policy op r ps) = if same_op op Get then copy_step_text steps.Get ++ copy_path r else copy_path_by ps
 
-    -- by the policy of this length that begins the text, else by the wildcard
+    -- the path through the policy of this length that begins the text, else through the wildcard
     pub copy_path_begun : (longest : ℕ) → Prefixes → List ℕ
     copy_path_begun longest (Wildcard r) = copy_step_text steps.Wildcard ++ copy_path r
     copy_path_begun longest (Prefix p r ps) = if begins p text && length p == longest then step_to_policy p ++ copy_path r else copy_path_begun longest ps

@@ -52,7 +52,7 @@ AreRead servers [] configs = configs ≡ []
 AreRead servers (file ∷ files) [] = ⊥
 AreRead servers (file ∷ files) (config ∷ configs) = (read_after servers (read (string_bytes file.text)) ≡ Ok (config.tree, config.servers)) × AreRead config.servers files configs
 
--- they were added
+-- the configurations of the files were added
 abbrev pub AddsRead : Addresses → List FleetFile → List Configuration → List Configuration → Type 0
 AddsRead servers files old new = (configs : List Configuration) × (new ≡ old ++ configs) × AreRead servers files configs
 
@@ -93,7 +93,7 @@ pub record AcceptsFleet (files : List FleetFile) (old new : Option (List ℕ)) :
   pub side_by_side : AreSideBySide (trees_of configs)
   pub printed : Appends old new (fleet_line (length configs))
 
--- they may not, and why was written
+-- proxies may not run by the configurations of the files at the same time, and why was written
 pub record RefusesFleet (files : List FleetFile) (old new : Option (List ℕ)) : Type 0 where
   pub configs : List Configuration
   pub read : AreRead [] files configs

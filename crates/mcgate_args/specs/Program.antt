@@ -60,11 +60,11 @@ Overruns (tasks.Replay judging) text old new = Overran judging (text_told text) 
 abbrev pub NeverOverruns : List ℕ → Option (List ℕ) → Option (List ℕ) → Type 0
 NeverOverruns text old new = ⊥
 
--- of what is judged alone nothing was written where memory was refused
+-- where memory was refused nothing was written of what is judged alone
 abbrev pub WritesNothing : List ℕ → Option (List ℕ) → Option (List ℕ) → Type 0
 WritesNothing text old new = new ≡ old
 
--- of where keys live some of the lines may have been written where memory was refused, and nothing is said of them
+-- where memory was refused some lines of where keys live may have been written, and nothing is said of them
 abbrev pub SaysNothing : List ℕ → Option (List ℕ) → Option (List ℕ) → Type 0
 SaysNothing text old new = Unit {0}
 
@@ -105,7 +105,7 @@ GivesConfig text old new (Ok (Some config)) = (read_or (read text) ≡ Ok (confi
 GivesConfig text old new (Ok None) = PrintsFault text old new
 GivesConfig text old new (Err stop) = BreaksRunOff (new ≡ old) ⊥ stop
 
--- of an input that was not read none comes
+-- an input that was not read gives no configuration
 abbrev pub GivesNoConfig : InputFault → Option (List ℕ) → Option (List ℕ) → Result (Option Configuration) Stop → Type 0
 GivesNoConfig fault old new (Ok (Some config)) = ⊥
 GivesNoConfig fault old new (Ok None) = Declines fault old new (Ok 2)

@@ -137,7 +137,7 @@ fn all_lines(
     Ok(lines)
 }
 
-// Of a configuration with this text.
+// The lines on a configuration with this text.
 fn lines_of(
     alloc: Global,
     history: &History,

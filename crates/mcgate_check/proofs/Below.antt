@@ -96,7 +96,7 @@ nothing = None
 none_some : (n : ℕ) (A : Type 0) → nothing ≡ Some n → A
 none_some n A e = absurd (cc)
 
--- so a server whose item is found is one of them
+-- a server whose item is found has a number below the bound, where those of the plain tree do
 module _ (bound : ℕ) (op : Op) (s : ℕ) where
   server_below : (t n : ℕ) (b : Bool) → nat_eq t s ≡ b → cond b (Some 0) None ≡ Some n → t < bound → s < bound
   server_below t n true e found below = subst (λ (u : ℕ). u < bound) (eqb-true t s e) below

@@ -47,7 +47,7 @@ run_is_read config gap events run widths =
     let lines = run_has_lines gap.server run.key gap.op run.delete run.read run.first.is_key.key_is wide in
     scripts_are_read_back events (subst (λ (es : List Scripted). HaveLines es) (sym run.script_is) lines)
 
--- its lines, once it was written, or none
+-- the lines of the script that was found show the reason; without a script there are none
 pub lines_show : (config : Configuration) (reason : Reason) (found : Option Script) → IsFoundFor config reason found → IfSome found (λ script. All IsWide script.events.items) → ShowsReason config reason (run_lines found)
 lines_show config (reasons.Uncovered gap) None lacks widths = inr (lacks, refl)
 lines_show config (reasons.Uncovered gap) (Some script) run widths =

@@ -29,7 +29,7 @@ stops_status old new TooManyCalls kept = absurd kept
 same : (a b : Configuration) → Some a ≡ Some b → a ≡ b
 same a b e = cc
 
--- of a configuration that is in use alone
+-- what holds of the tree of a configuration that is in use alone holds of the tree in use
 in_use : (P : Route → Type 0) (configs : List Configuration) (config used : Configuration) (tree : Route) → configs ≡ config ∷ [] → IsLast configs used → tree ≡ used.tree → P config.tree → P tree
 in_use P configs config used tree one last is holds =
     let alone = subst (λ (l : List Configuration). IsLast l used) one last in

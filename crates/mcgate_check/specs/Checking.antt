@@ -60,7 +60,7 @@ abbrev pub ShowsGap : Configuration → Gap → List ℕ → Type 0
 ShowsGap config gap lines =
     ((events : List Scripted) × IsRefusalRun config gap events × AreReadBack events × (lines ≡ script_lines events)) ⊎ (MayLack config.tree gap × (lines ≡ []))
 
--- so it is where the reason is a gap; for another there are no lines
+-- the lines of this reason: those of a gap show it, or it may have no script; of another reason there are none
 abbrev pub ShowsReason : Configuration → Reason → List ℕ → Type 0
 ShowsReason config (reasons.Uncovered gap) lines = ShowsGap config gap lines
 ShowsReason config reasons.TooManyPlaces lines = lines ≡ []
@@ -83,7 +83,7 @@ pub record ChecksRefused (config : Configuration) (reason : Reason) (old new : O
   pub shows : ShowsReason config reason run
   pub printed : Appends old new (judged_line config.servers reason ++ run)
 
--- the same, where this script was found, or none
+-- the tree is refused for this reason, and that and then the lines of this script, if one was found, were written
 pub record ChecksFound (config : Configuration) (reason : Reason) (found : Option Script) (old new : Option (List ℕ)) : Type 0 where
   pub checks : ChecksRefused config reason old new
   pub run_is : checks.run ≡ run_lines found

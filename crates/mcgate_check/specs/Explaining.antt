@@ -39,7 +39,7 @@ number_front server = codes "# in the script, server " ++ decimal server ++ code
 abbrev pub number_line : Addresses → NamedPools → ℕ → List ℕ
 number_line servers pools server = number_front server ++ server_text servers pools server ++ codes "\n"
 
--- the same, if there is a script
+-- which server the number is that the script of a gap of this server names, if there is a script
 abbrev pub script_words : Addresses → NamedPools → ℕ → Option Script → List ℕ
 script_words servers pools server None = []
 script_words servers pools server (Some script) = number_line servers pools server

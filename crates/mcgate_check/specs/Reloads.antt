@@ -10,7 +10,7 @@ use Rattle.mcgate_check.specs.Verdict.{gap_fields}
 abbrev pub loaded_line : ℕ → List ℕ
 loaded_line generation = codes "reload accepted generation=" ++ decimal generation ++ codes "\n"
 
--- the same where no gate was asked
+-- the line of a configuration that was loaded as this generation where no gate was asked
 abbrev pub unchecked_line : ℕ → List ℕ
 unchecked_line generation = codes "reload unchecked generation=" ++ decimal generation ++ codes "\n"
 

@@ -21,6 +21,6 @@ is_step (At turn loss) = false
 is_step (Now loss) = false
 is_step (Moment moment) = false
 
--- one of these events is such a one
+-- with one of these events a call stays out or has its result by hand, or is to fail by the bytes of its answer
 abbrev pub is_stepped : List Scripted → Bool
 is_stepped events = list_any is_step events

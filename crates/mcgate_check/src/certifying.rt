@@ -45,7 +45,7 @@ fn print_certificate<W: Write>(
     Ok(DONE)
 }
 
-// The same of a configuration by the table of its tree's places, or writes why it is refused.
+// Writes a certificate of a configuration's tree, whose table of places this is, or why it is refused.
 fn certify_by<W: Write>(
     alloc: Global,
     config: Config,
@@ -62,7 +62,7 @@ fn certify_by<W: Write>(
     }
 }
 
-// The same of a configuration. The table of its tree's places is made once, for the judgement and the certificate.
+// Writes a certificate of a configuration's tree, or why it is refused. The table of places is made once, for the judgement and the certificate.
 fn certify_config<W: Write>(alloc: Global, config: Config, out: &mut W) -> Result<u8, RunFault>
     ensures ok { IfOk result (CertifiesConfig config (W.contents out.old) (W.contents out.new)) }
     ensures err { IfErr result (StopsUnwritten (W.contents out.old) (W.contents out.new)) }
@@ -76,7 +76,7 @@ fn certify_config<W: Write>(alloc: Global, config: Config, out: &mut W) -> Resul
     }
 }
 
-// The same of the configuration of a text, or writes why it is none.
+// Writes a certificate of a text's configuration, why that is refused, or why the text is none.
 fn certify_text<W: Write>(alloc: Global, text: &str, out: &mut W) -> Result<u8, RunFault>
     ensures ok { IfOk result (Certifies text.now (W.contents out.old) (W.contents out.new)) }
     ensures err { IfErr result (StopsUnwritten (W.contents out.old) (W.contents out.new)) }

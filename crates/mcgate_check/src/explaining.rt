@@ -108,7 +108,7 @@ fn write_number<W: Write>(
     Ok(())
 }
 
-// The same, if there is a script.
+// Which server the number is that the script of a gap names, if there is a script.
 fn write_script_words<W: Write>(
     servers: &Servers,
     pools: &[ConfigPool],

@@ -5,7 +5,8 @@
 //! arguments --mcgate_args--> check, certify, where --> here
 //!                            replay                --> mcgate_replay    --> script_run
 //!                            loopback              --> mcgate_loopback  --> serve_proxy and cache_tcp, in one thread
-//!                            serve, cache          --> mcgate           --> serve_proxy; cache_tcp
+//!                            serve                 --> mcgate_serve     --> serve_proxy
+//!                            cache                 --> mcgate           --> cache_tcp
 //! ```
 #![tactic(auto)]
 

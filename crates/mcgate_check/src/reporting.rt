@@ -21,7 +21,7 @@ use std::io::Write;
 pub enum Form {
     /// The verdict, and the script that shows a gap.
     Lines,
-    /// The same, and then in words.
+    /// The verdict, the script that shows a gap, and then words.
     Explained,
     /// The tree as a graph, a gap marked.
     Picture,

@@ -75,10 +75,10 @@ pub runs_status : (t : Result Told WhyNot) (old new : Option (List ℕ)) (status
 runs_status t old new status (inl ran) = let few = good_status ran.script.configuration ran.script.loads old new status ran.runs in omega (arith, few)
 runs_status t old new status (inr bad) = let e = bad.0 in omega (arith, e)
 
--- of an equal configuration that the gate accepted
+-- a run by an equal configuration that the gate accepted is one by this
 pub runs_certified : (config first : Configuration) (reloads : List Reload) (old new : Option (List ℕ)) (status : ℕ) → first ≡ config → IsCertified first.tree → (status ≡ 0) × WritesRun reloads old new → LoopbackRuns config reloads old new status
 runs_certified config first reloads old new status same certified r = inl (r.0, subst (λ (c : Configuration). IsCertified c.tree) same certified, r.1)
 
--- of an equal one that it refused
+-- a refusal of an equal configuration is one of this
 pub refused_first : (config first : Configuration) (reloads : List Reload) (old new : Option (List ℕ)) (status : ℕ) → first ≡ config → (status ≡ 1) × PrintsRefused first old new → LoopbackRuns config reloads old new status
 refused_first config first reloads old new status same p = inr (p.0, subst (λ (c : Configuration). PrintsRefused c old new) same p.1)

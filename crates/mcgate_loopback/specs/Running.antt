@@ -27,7 +27,7 @@ pub record WritesRun (reloads : List Reload) (old new : Option (List ℕ)) : Typ
   pub counts : Counts
   pub printed : Appends old new (entry_lines reloads shown ++ done_line counts)
 
--- such lines were written, of some reloads
+-- lines of what clients got and of what became of some reloads were written
 pub record WritesPart (old new : Option (List ℕ)) : Type 0 where
   pub reloads : List Reload
   pub shown : List RunEntry
@@ -45,7 +45,7 @@ LoopbackRuns config reloads old new status = ((status ≡ 0) × IsCertified conf
 
 -- ---- a script that was read
 
--- its events
+-- the events of a script that was read
 abbrev pub loopback_events : ConfiguredScript → List Scripted
 loopback_events script = map scripted_of script.script.events.items
 
@@ -55,7 +55,7 @@ pub record HasBadEvent (script : ConfiguredScript) (old new : Option (List ℕ))
   pub bad : bad_event_line (count_known script) (loopback_events script) script.lines.items ≡ Some line
   pub printed : Appends old new (bad_line_line line)
 
--- each of its events can be, and it ran or was refused; or one can't, and the line of the first was written
+-- each event of the script can be, and it ran or was refused; or one can't, and the line of the first was written
 abbrev pub LoopbackRunsScript : ConfiguredScript → Option (List ℕ) → Option (List ℕ) → ℕ → Type 0
 LoopbackRunsScript script old new status =
     ((first_bad (count_known script) (loopback_events script) ≡ None) × LoopbackRuns script.config script.reloads.items old new status)

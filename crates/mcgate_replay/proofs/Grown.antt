@@ -59,7 +59,7 @@ told_refused most known known' r unsound o e numbered is why = subst (λ (p : Op
     by (reasons.Left generation gap) h = h
     by reasons.NoMemory h = tt
 
--- as many are held then as before
+-- after a refusal as many trees are held as before
 pub few_told : {E : Type 0} (most held : ℕ) (unsound : Unsound) (o : Option Loading) (e : E) → o ≡ loading_of_unsound unsound → IsFew most held → IfOk (ok_or o e) (λ l. IsFew most (held_after held l))
 few_told most held unsound o e is few = subst (λ (p : Option Loading). IfOk (ok_or p e) (λ l. IsFew most (held_after held l))) (sym is) (by unsound)
   where

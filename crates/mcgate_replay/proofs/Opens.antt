@@ -36,7 +36,7 @@ use Rattle.mcgate_replay.specs.Growing.{may_begin_with, may_hold, is_excluded, f
 
 -- ---- the first event that is excluded
 
--- so far none is
+-- the first event isn't excluded, so the first that is stands after it
 pub not_so_far : (begun : Beginnings) (config : Configuration) (at : ℕ) (event : Scripted) (events : List Scripted) → is_excluded begun config event ≡ false → first_excluded begun config at (event ∷ events) ≡ first_excluded begun config (at + 1) events
 not_so_far begun config at event events fits = ap (λ (b : Bool). cond b (Some at) (first_excluded begun config (at + 1) events)) fits
 

@@ -102,7 +102,7 @@ no_fewer (x ∷ xs) new kept =
     let within = slice_get_within new (length xs) last.0 (kept (length xs) lt ∙ last.1) in
     omega (arith, within)
 
--- those of the first configuration are among those known in the end
+-- the servers of the first configuration are no more than those known in the end
 pub first_few : (used : Addresses) (rs : List Reload) → AreChainedFrom used rs → length used ≤ length (servers_known used rs)
 first_few used [] chained = omega arith
 first_few used (r ∷ rs) chained =

@@ -91,7 +91,7 @@ abbrev pub JudgesNext : (Known → Route → ReloadFault → Type 0) → Known �
 JudgesNext Why known r (Loaded n) known' = (known' ≡ more r.config known) × (n ≡ length known'.configs)
 JudgesNext Why known r (Refused fault) known' = (known' ≡ known) × Why known r.config.tree fault
 
--- its answers to these reloads, one after another
+-- the gate's answers to these reloads, one after another
 abbrev pub JudgesAll : (Known → Route → ReloadFault → Type 0) → Known → List Reload → List Loading → Known → Type 0
 JudgesAll Why known [] [] known' = known' ≡ known
 JudgesAll Why known [] (l ∷ ls) known' = ⊥
@@ -103,11 +103,11 @@ abbrev pub held_after : ℕ → Loading → ℕ
 held_after held (Loaded n) = n
 held_after held (Refused fault) = held
 
--- for whatever reason it refuses trees
+-- the gate may refuse a tree for any reason
 abbrev pub ForAnyReason : Known → Route → ReloadFault → Type 0
 ForAnyReason known tree fault = Unit {0}
 
--- those that it accepted are sound, by how servers began, and by these events they began so
+-- the trees that the gate accepted are sound, by how servers began, and by these events servers began so
 pub record AreFollowed (first : Configuration) (rs : List Reload) (ls : List Loading) (events : List Scripted) : Type 0 where
   pub begun : Beginnings
   pub known : Known

@@ -17,7 +17,7 @@ use Rattle.mcgate_replay.specs.Growing.{JudgesAll, IsFew}
 
 -- ---- two trees
 
--- the same fault, of this generation
+-- the fault, told of this generation
 abbrev pub of_generation : ℕ → ReloadFault → ReloadFault
 of_generation n faults.TooManyGenerations = faults.TooManyGenerations
 of_generation n (faults.TooManyPlaces generation) = faults.TooManyPlaces n

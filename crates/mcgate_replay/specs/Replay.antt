@@ -42,11 +42,11 @@ use Rattle.mcgate_replay.specs.Pairing.{ArePaired}
 abbrev pub scripted : Script → List Scripted
 scripted script = map scripted_of script.events.items
 
--- the same of a script that was read
+-- the events of a script that was read with its configuration
 abbrev pub replayed_events : ConfiguredScript → List Scripted
 replayed_events script = scripted script.script
 
--- the configurations that it loads
+-- the reloads of a script that was read
 abbrev pub reloads_of : ConfiguredScript → List Reload
 reloads_of script = script.reloads.items
 
@@ -134,7 +134,7 @@ pub record PrintsPart (judging : Judging) (config : Configuration) (reloads : Li
   pub are_loadings : AreLoadings judging config reloads loadings
   pub fresh : asks_no_gate judging ≡ false → IsFreshByNumber (opening_of events) (run_of part.log)
 
--- the same, until there were no more numbers for calls or commands
+-- a part of the events ran, until there were no more numbers for calls or commands; the lines of its transcript were written
 pub record PrintsSpent (judging : Judging) (config : Configuration) (reloads : List Reload) (events : List Scripted) (old new : Option (List ℕ)) : Type 0 where
   pub prints : PrintsPart judging config reloads events old new
   pub spent : AreSpentIn prints.part.log
@@ -177,7 +177,7 @@ RunsScript judging script old new status = RanScript judging script old new stat
 abbrev pub BreaksScriptOff : Judging → ConfiguredScript → Option (List ℕ) → Option (List ℕ) → RunFault → Type 0
 BreaksScriptOff judging script old new fault = BreaksTreeOff judging script.config (reloads_of script) (replayed_events script) old new fault
 
--- its reloads stand in the order of their places, and each list of servers begins with the one before it
+-- a script's reloads stand in the order of their places, and each list of servers begins with the one before it
 pub record HasReloads (script : ConfiguredScript) : Type 0 where
   pub order : ReloadsInOrder (length script.script.events.items) (count_known script) 0 (reloads_of script)
   pub chained : AreChainedFrom script.config.servers (reloads_of script)
@@ -229,7 +229,7 @@ ReplayBreaksOff judging t old new Writer = Unit {0}
 
 -- ---- what was read of a text
 
--- so is each text replayed that is read so
+-- each text that is read so is replayed, with this status
 abbrev pub ReplaysRead : Judging → Result ConfiguredScript ScriptFault → Option (List ℕ) → Option (List ℕ) → ℕ → Type 0
 ReplaysRead judging read old new status = (t : Result Told WhyNot) → ReadsScript t read → ReplaysTold judging t old new status
 
@@ -238,10 +238,10 @@ BreaksReadOff judging read old new fault = (t : Result Told WhyNot) → ReadsScr
 
 -- ---- a text
 
--- of a script with its configuration
+-- the text is a script with its configuration, and was replayed with this status
 abbrev pub Replays : Judging → List ℕ → Option (List ℕ) → Option (List ℕ) → ℕ → Type 0
 Replays judging text = ReplaysTold judging (text_told text)
 
--- of a script of events alone, over a configuration from elsewhere
+-- the text is a script of events alone, and was replayed over a configuration from elsewhere with this status
 abbrev pub ReplaysOver : Judging → Configuration → List ℕ → Option (List ℕ) → Option (List ℕ) → ℕ → Type 0
 ReplaysOver judging config text = ReplaysTold judging (Ok (told_over config text))

@@ -13,6 +13,6 @@ pub enum Judging {
     Any,
     /// Those that the gate accepts, whatever servers held at first, and so many at most.
     Asked(u32),
-    /// Those that it accepts where servers began so, and so many at most. A `hold` of what a server can't have begun with is a bad line.
+    /// Those that the gate accepts where servers began so, and so many at most. A `hold` of what a server can't have begun with is a bad line.
     Begun(Beginnings, u32),
 }

@@ -18,7 +18,7 @@ use script_run::accepted::judging::{refusal, refused_of};
 use script_run::accepted::{Judged, Loading};
 use std::alloc::{AllocError, Global};
 
-// The same fault, of this generation.
+// The fault, told of this generation.
 fn of_generation(generation: u32, fault: ReloadFault) -> ReloadFault
     ensures { result ≡ of_generation generation fault }
 {
@@ -80,7 +80,7 @@ fn next_number(
     }
 }
 
-// The configuration is one of them, too, the last one.
+// A copy of the configuration stands behind these.
 fn push_copy(alloc: Global, configs: &mut Vec<Config>, config: &Config) -> Result<(), AllocError>
     ensures { OnOk result (configs.new.items ≡ configs.old.items ++ config.now ∷ []) }
 {

@@ -41,7 +41,7 @@ fn run_gated<W: Write>(
     }
 }
 
-// The same where servers began so.
+// Runs a script, where servers began so, if the gate accepts its first tree, or else writes why it is refused. At most so many trees are held.
 fn run_gated_begun<W: Write>(
     alloc: Global,
     begun: Beginnings,

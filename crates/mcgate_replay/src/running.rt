@@ -109,7 +109,7 @@ pub fn run_accepted<W: Write>(
     run_judged(alloc, Judging::Asked(most), &judged, script, out)
 }
 
-/// The same where servers began so: through the tree and those of its reloads that may follow then.
+/// Runs a script, where servers began so, through an accepted tree and those of its reloads that may follow then, so many at most, and writes what came of it.
 pub fn run_begun<W: Write>(
     alloc: Global,
     begun: Beginnings,

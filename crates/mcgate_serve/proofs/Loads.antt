@@ -209,7 +209,7 @@ serves_from {settings = settings} {text = text} {new = new} history old mid core
     let y = g.limits text limited in
     record { serves = then_grows (of_none (limits_changed history old mid core ends)) g.serves; limits = (y.0, use_both (usual_limits settings) (texts_of new.links) text text y.0 g.serves.steps [] refl y.1) }
 
--- or nothing more is done
+-- nothing is done, but that limits may have changed, and it serves so from this text on
 pub serves_none : {W : Type 0} {settings : Settings} {text : List ℕ} (history : W → List WireEvent) (old new : ProxyEnd W) → new.core ≡ old.core → StayButLimits history old.sockets new.sockets → GoesOnFrom settings text (proxy_of history old) (proxy_of history new)
 unfolding of_none
 serves_none {text = text} history old new core ends = record { serves = of_none (limits_changed history old new core ends); limits = (text, refl) }

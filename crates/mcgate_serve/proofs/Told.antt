@@ -40,7 +40,7 @@ tells_tally core servers numbers families has tell =
       unplaced = subst (λ n. IsAmong (Tells (codes "mcgate_calls_unplaced_total") (([], Count n) ∷ [])) families) has.unplaced tell.unplaced;
     }
 
--- so do their texts
+-- a text of numbers that have what the core counts tells just that
 in_prometheus : (core : ServedCore) (servers : Addresses) (numbers : Numbers) (text : List ℕ) → HasTally core servers numbers → IsInPrometheus numbers text → TellsInPrometheus core servers text
 in_prometheus core servers numbers text has is = (is.0, tells_tally core servers numbers is.0 has is.1, is.2)
 

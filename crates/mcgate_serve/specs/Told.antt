@@ -48,11 +48,11 @@ pub record IsToldOf (tally : CoreTally) (server : ℕ) (text : List ℕ) (number
   pub answered : numbers.answered ≡ (of_server tally server).answered
   pub failed : numbers.failed ≡ (of_server tally server).failed - numbers.unsent
 
--- they are of one of these servers, under its text
+-- these numbers have what the core counts of one of these servers, under its text
 abbrev pub IsRowOfServer : CoreTally → Addresses → ServerNumbers → Type 0
 IsRowOfServer tally servers numbers = (server : ℕ) × (text : List ℕ) × (slice_get servers server ≡ Some text) × IsToldOf tally server text numbers
 
--- so is each of them
+-- each of these rows has what the core counts of one of these servers, under its text
 abbrev pub AreOfServers : CoreTally → Addresses → List ServerNumbers → Type 0
 AreOfServers tally servers rows = Each (IsRowOfServer tally servers) rows
 

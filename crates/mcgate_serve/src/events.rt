@@ -125,7 +125,7 @@ impl<'a> LogEvent<'a> {
         LogEvent::new(Level::Debug, subject, fields)
     }
 
-    /// The same, and the text of its line stands behind the keys.
+    /// This event, with the text of its line behind the keys.
     pub fn with_text(self) -> LogEvent<'a> {
         LogEvent {
             has_text: true,
@@ -133,7 +133,7 @@ impl<'a> LogEvent<'a> {
         }
     }
 
-    /// The same with further keys: words `key=value` with a space between two.
+    /// This event, with further keys: words `key=value` with a space between two.
     pub fn with_words(self, words: &'a str) -> LogEvent<'a> {
         LogEvent { words, ..self }
     }
@@ -176,7 +176,7 @@ fn write_value<W: fmt::Write>(f: &mut fmt::Formatter<W>, value: Value<'_>) -> fm
     }
 }
 
-// The same in JSON.
+// Writes a value in JSON.
 fn write_json_value<W: fmt::Write>(f: &mut fmt::Formatter<W>, value: Value<'_>) -> fmt::Result {
     match value {
         Value::Text(text) => Quoted(text).fmt(f),
@@ -241,7 +241,7 @@ impl Display for InWords<'_> {
     }
 }
 
-/// The same within an object in JSON: `,"key":value` for its subject, each key, and the text of its line, as `line`.
+/// An event within an object in JSON: `,"key":value` for its subject, each key, and the text of its line, as `line`.
 #[derive(Drop)]
 pub struct InJson<'a> {
     pub event: LogEvent<'a>,

@@ -44,7 +44,7 @@ pub fn input_of<R: Files + Input + AllocGlobal>(
     input
 }
 
-// That of no generation.
+// The history of no generation.
 fn new_file(alloc: Global) -> Result<HistoryFile, Stop> {
     match HistoryFile::new(alloc) {
         Ok(file) => Ok(file),

@@ -8,15 +8,15 @@ use crate::lines::Lines;
 pub enum NameNews {
     /// It leads to no machine, and never did.
     Unknown,
-    /// It leads to one for the first time.
+    /// It leads to a machine for the first time.
     Known,
     /// It can't be looked up now.
     NotFound,
     /// It leads to another machine, where connections go from now on.
     Moved,
-    /// It leads to another machine, where none go.
+    /// It leads to another machine, where no connections go.
     Kept,
-    /// The same, as it can't be written that this machine is to be emptied.
+    /// It leads to another machine, where no connections go, as it can't be written that this one is to be emptied.
     Unwritten,
 }
 

@@ -41,7 +41,7 @@ impl Outages {
         }
     }
 
-    /// It isn't.
+    /// The server isn't down.
     pub fn note_up(&mut self, at: usize) {
         if let Some(told) = self.told.get_mut(at) {
             *told = 0;

@@ -290,7 +290,7 @@ fn servers_of<W: Wire>(
     Ok(told)
 }
 
-/// What is counted beside all that.
+/// How long the program has run, how many requests over HTTP were answered, and how many lines were lost.
 #[derive(Clone, Copy)]
 pub struct Times {
     pub uptime_ms: u64,
@@ -332,7 +332,7 @@ fn numbers_of<R: Files + AllocGlobal, W: Wire>(
     })
 }
 
-/// All of that as the text of a page: what the core counts stands at its names, that of a server at the server's text.
+/// All numbers in JSON, as the text of a page: what the core counts stands at its names, that of a server at the server's text.
 pub fn stats_of<R: Files + AllocGlobal, W: Wire>(
     rt: &R,
     end: &ProxyEnd<W>,

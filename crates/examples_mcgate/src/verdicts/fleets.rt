@@ -9,7 +9,7 @@ use route_json::{Config, read_config, read_config_after};
 use std::alloc::{AllocError, Global};
 use std::test::Fail;
 
-// Of one file.
+// Verdicts on one file.
 fn single() -> &'static str {
     r#"== pool
 "PoolRoute|A"
@@ -42,7 +42,7 @@ accepted trees=1
 "#
 }
 
-// Of several files. The last two have 64 and 63 slots, and 67, whose least common multiple is 270,144.
+// Verdicts on several files. The last two have 64 and 63 slots, and 67, whose least common multiple is 270,144.
 fn several() -> &'static str {
     r#"== later_one_reads_what_the_earlier_one_leaves
 "PoolRoute|A"
@@ -106,7 +106,7 @@ refused: too many places reads=f0 deletes=f1
 "#
 }
 
-// Of a configuration that is to follow the one in use: 0 if it may.
+// Verdicts on a configuration that is to follow the one in use: 0 if it may.
 fn following() -> &'static str {
     r#"== deletes_go_to_one_more_pool
 "PoolRoute|A"

@@ -28,7 +28,7 @@ fn printed() -> &'static str {
 "
 }
 
-// The same, where the pools say limits.
+// The configuration of pools that say limits.
 fn config_with_limits() -> &'static str {
     r#"{"pools":{"A":{"servers":["a:1","a:2"],"retry_ms":500,"call_ms":200},"B":{"servers":["b:1"]}},"route":{"type":"OperationSelectorRoute","default_policy":{"type":"WarmUpRoute","cold":"PoolRoute|A","warm":"PoolRoute|B"},"operation_policies":{"delete":"NullRoute"}}}"#
 }

@@ -17,7 +17,7 @@ const TWO: &str = r#"{"pools":{"A":{"servers":["a:1","b:1"]}},"route":"PoolRoute
 const GROWN: &str =
     r#"0⏎old: accepted⏎at once: accepted⏎# Or so, if it is to be undone:⏎step 1, the old one with deletes to both: accepted⏎{"pools":{"old A":{"servers":["a:1"]},"new A":{"servers":["a:1","b:1"]}},"route":{"type":"OperationSelectorRoute","default_policy":"PoolRoute|old A","operation_policies":{"delete":{"type":"AllSyncRoute","children":["PoolRoute|old A","PoolRoute|new A"]}}}}⏎step 2, the new one with deletes to both: accepted⏎{"pools":{"old A":{"servers":["a:1"]},"new A":{"servers":["a:1","b:1"]}},"route":{"type":"OperationSelectorRoute","default_policy":"PoolRoute|new A","operation_policies":{"delete":{"type":"AllSyncRoute","children":["PoolRoute|old A","PoolRoute|new A"]}}}}⏎step 3, the new one: accepted⏎{"pools":{"A":{"servers":["a:1","b:1"]}},"route":"PoolRoute|A"}⏎# A step may follow once each mcgate before these servers has loaded the one before it.⏎# Between steps 1 and 2 one can go back and forth; stay at step 2 for as long as the change may be undone.⏎"#;
 
-// The same where the server may hold anything.
+// A new server that may hold anything.
 const REFUSED: &str =
     r#"1⏎old: accepted⏎at once: refused generation=1 server=b:1 prefix= residue=1/2⏎# No step after the trees so far helps. Stop every mcgate, empty all servers of both, and begin anew:⏎step 1, the old one with deletes to both: accepted⏎{"pools":{"old A":{"servers":["a:1"]},"new A":{"servers":["a:1","b:1"]}},"route":{"type":"OperationSelectorRoute","default_policy":"PoolRoute|old A","operation_policies":{"delete":{"type":"AllSyncRoute","children":["PoolRoute|old A","PoolRoute|new A"]}}}}⏎step 2, the new one with deletes to both: accepted⏎{"pools":{"old A":{"servers":["a:1"]},"new A":{"servers":["a:1","b:1"]}},"route":{"type":"OperationSelectorRoute","default_policy":"PoolRoute|new A","operation_policies":{"delete":{"type":"AllSyncRoute","children":["PoolRoute|old A","PoolRoute|new A"]}}}}⏎step 3, the new one: accepted⏎{"pools":{"A":{"servers":["a:1","b:1"]}},"route":"PoolRoute|A"}⏎# A step may follow once each mcgate before these servers has loaded the one before it.⏎# Between steps 1 and 2 one can go back and forth; stay at step 2 for as long as the change may be undone.⏎"#;
 
@@ -34,7 +34,7 @@ fn plan_of(alloc: Global, added: Beginning, old: &str, new: &str) -> Result<Stri
     }
 }
 
-// It is this, which is folded.
+// What is printed of a change is this, which is folded.
 fn holds(alloc: Global, added: Beginning, old: &str, new: &str, want: &str) -> Result<(), Fail> {
     let got = plan_of(alloc, added, old, new)?;
     let want = unfolded(alloc, want)?;

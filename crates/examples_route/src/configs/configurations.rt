@@ -81,7 +81,7 @@ fn tables() -> &'static str {
 ["a:1"],"slots":[1],"slot":[0] => bad field slot"#
 }
 
-// The same of a pool that has limits of its own.
+// Pools with limits of their own.
 fn limits() -> &'static str {
     r#"["a:1"],"call_ms":1,"connect_ms":4294967295,"fail_limit":1,"retry_ms":4294967295 => accepted
 ["a:1"],"call_ms":0 => bad field call_ms

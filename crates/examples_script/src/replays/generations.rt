@@ -108,11 +108,11 @@ fn other_numbers_of_generations(rt: HostRuntime) -> Result<(), Fail> {
 const BOTH: &str =
     "over A and B {\"type\":\"OperationSelectorRoute\",\"default_policy\":\"PoolRoute|A\",\"operation_policies\":{\"delete\":{\"type\":\"AllSyncRoute\",\"children\":[\"PoolRoute|A\",\"PoolRoute|B\"]}}}\n";
 
-// The same that reads the other one.
+// A tree whose deletes reach both servers, and which reads B.
 const OTHER: &str =
     "over A and B {\"type\":\"OperationSelectorRoute\",\"default_policy\":\"PoolRoute|B\",\"operation_policies\":{\"delete\":{\"type\":\"AllSyncRoute\",\"children\":[\"PoolRoute|A\",\"PoolRoute|B\"]}}}\n";
 
-// Sixteen of the first, one whose deletes reach one server, and the other.
+// Sixteen trees whose deletes reach both servers, one whose deletes reach one, and one that reads B.
 fn late_gap(alloc: Global) -> Result<String, AllocError> {
     let mut script = reloads(alloc, BOTH, 15)?;
     push_reload(alloc, &mut script, ONE)?;

@@ -34,7 +34,7 @@ fail 0 before => 2⏎script: bad line 2⏎
 x => 2⏎script: bad line 2⏎"#
 }
 
-// The same where the gate isn't asked.
+// Events over a tree that the gate would refuse, where it isn't asked.
 fn unasked() -> &'static str {
     " => 0⏎done 0 commands 0 calls 0 stale⏎"
 }
@@ -118,7 +118,7 @@ fn printed_over(alloc: Global, any: bool, config: &str, events: &str) -> Result<
     told(alloc, status, out.as_slice())
 }
 
-// The same of folded events.
+// What is printed of folded events over a configuration, with the status.
 fn printed_of_folded(alloc: Global, any: bool, config: &str, events: &str) -> Result<String, Fail> {
     let events = unfolded(alloc, events)?;
     printed_over(alloc, any, config, events.as_str())

@@ -469,7 +469,7 @@ pub fn printed(alloc: Global, any: bool, script: &str) -> Result<String, Fail> {
     printed_by(alloc, judging_of(any), script)
 }
 
-// The same of an example's lines.
+// What is printed of the script of an example's lines, with the status; with `any` whatever the gate says of its trees.
 fn printed_of(alloc: Global, any: bool, given: &str) -> Result<String, Fail> {
     let mut script = expanded(alloc, given)?;
     script.push('\n')?;

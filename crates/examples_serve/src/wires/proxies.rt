@@ -1186,7 +1186,7 @@ fn resolve_all<W: Wire>(rt: &HostRuntime, wire: &mut W, servers: &Servers) {
     }
 }
 
-// The same by the proxy.
+// The proxy looks up those of these servers that hosts are known of.
 fn resolve_more(rt: &HostRuntime, proxy: &mut ProxyEnd<Memory>, servers: &Servers) {
     for at in 0..servers.len() {
         if let Some(text) = text_at(servers, at) {

@@ -73,7 +73,7 @@ fn goes_on(alloc: Global, line: &[u8]) -> Result<bool, AllocError> {
     Ok(is_asked && stream.held() == b"get k\r\nget l\r\n".as_slice())
 }
 
-// The same where more comes before the store is done.
+// Whether a store of this line is asked as it came, where more comes before it is done, and what comes after it is read on.
 fn goes_on_early(alloc: Global, line: &[u8]) -> Result<bool, AllocError> {
     let text = request_text(alloc, line)?;
     let mut stream = shared(alloc, text.as_slice())?;

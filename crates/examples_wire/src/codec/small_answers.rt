@@ -121,7 +121,7 @@ fn are_kept_as_read(
     Ok(true)
 }
 
-// The same of several bytes, by one store of spare bodies.
+// An answer of each length is read with each of several bytes, by one store of spare bodies; no more than so many are held on.
 fn stay(alloc: Global, ask: &Ask, most: usize) -> Result<bool, AllocError> {
     let mut spares = SpareBodies::new(alloc);
     let mut held = Vec::new(alloc);

@@ -142,7 +142,7 @@ fn told_of_each(alloc: Global, bytes: &[u8]) -> Result<String, AllocError> {
     Ok(out)
 }
 
-// The same is told of each cut in two.
+// Whether this is told of the bytes in each cut in two.
 fn cuts_agree(alloc: Global, bytes: &[u8], told: &str) -> Result<bool, AllocError> {
     for at in 0..bytes.len() {
         if told_of_two(alloc, &bytes[..at], &bytes[at..])?.as_str() != told {

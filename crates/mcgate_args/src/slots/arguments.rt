@@ -25,7 +25,7 @@ pub enum SlotsChange<'a> {
     Keep,
     /// This address is added.
     Add(&'a str),
-    /// It is taken out.
+    /// This address is taken out.
     Remove(&'a str),
 }
 

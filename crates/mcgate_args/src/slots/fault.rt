@@ -11,7 +11,7 @@ use text_words::escapes::Escaped;
 pub enum SlotsFault<'a> {
     /// The text says no configuration.
     Config(ConfigFault),
-    /// That of the earlier file of this number says none.
+    /// The text of the earlier file of this number says no configuration.
     Earlier(usize, ConfigFault),
     NoPool(&'a str),
     /// There isn't one pool, and none is named.

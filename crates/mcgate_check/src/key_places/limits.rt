@@ -52,7 +52,7 @@ fn servers_of(alloc: Global, plain: &Plain, ops: &[Op]) -> Result<Vec<ServerId>,
     Ok(servers)
 }
 
-// Those that it has for some operation.
+// The servers that the plain tree has for some operation.
 fn all_servers_of(alloc: Global, plain: &Plain) -> Result<Vec<ServerId>, AllocError>
     ensures { IfOk result (λ servers. servers.items ≡ spec.plan_servers plain.now all_ops) }
 {

@@ -64,7 +64,7 @@ fn find_keys<W: Write>(
     }
 }
 
-// The same for the configuration of a text, or writes why it is none.
+// Writes where the keys live by a text's configuration, unless its tree has too many places, or why the text is none.
 fn find_in_text<W: Write>(
     alloc: Global,
     text: &str,

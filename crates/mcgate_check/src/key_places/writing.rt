@@ -143,7 +143,7 @@ fn write_all_ops<W: Write>(
     write_ops(alloc, config.servers(), pools, plain, &ops, out)
 }
 
-// The same, and those of the limits of their servers.
+// The lines of the operations of a plain tree, and those of the limits of their servers.
 fn write_plain<W: Write>(
     alloc: Global,
     config: &Config,

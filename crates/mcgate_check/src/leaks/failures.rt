@@ -28,7 +28,8 @@ fn failures_in(plain: &Plain, op: Op, server: ServerId) -> Option<Failures>
     Some(Failures { delete, read })
 }
 
-/// Those of the key's plain tree. The only error is running out of memory.
+/// By the key's plain tree, where each other call fails: how many do before a delete is acknowledged with the server not cleared, and before
+/// a read shows the server's item, if there are such. The only error is running out of memory.
 pub fn failures_at(
     alloc: Global,
     tree: &Tree,
