@@ -49,7 +49,7 @@ impl CacheItem {
 }
 
 impl Entry {
-    /// The same entry once more, with its data shared. The only error is running out of memory.
+    /// This entry once more, with its data shared. The only error is running out of memory.
     pub fn copy(&self) -> Result<Entry, AllocError>
         ensures { IfOk result (λ entry. entry ≡ self.now) }
     {

@@ -291,7 +291,7 @@ impl ServedCore {
         }
     }
 
-    // The same, but for the counts.
+    // The configuration is taken up; the counts stay as they are.
     fn take(&mut self, alloc: Global, config: Config) -> Result<u32, LoadFault>
         ensures loaded { IfOk result (λ number. IsTakenUp self.old config number self.new) }
         ensures refused { IfErr result (λ fault. RefusesLoad self.old config fault × (self.new ≡ self.old)) }

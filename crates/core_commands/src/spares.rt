@@ -47,7 +47,7 @@ fn blank_ask(alloc: Global) -> Option<SharedAsk> {
     .ok()
 }
 
-// The same ask once more, if it may be shared once more.
+// This ask once more, if it may be shared once more.
 fn copy_of(ask: &SharedAsk) -> Option<SharedAsk> {
     ask.copy().ok()
 }

@@ -57,7 +57,7 @@ pub fn accept(alloc: Global, config: Config) -> Result<Accepted, Refused>
     }
 }
 
-// The same configurations once more.
+// These configurations once more.
 fn copies(alloc: Global, configs: &[Config]) -> Result<Vec<Config>, AllocError>
     ensures { IfOk result (λ copies. copies.items ≡ configs.now) }
 {
@@ -85,7 +85,7 @@ impl Accepted {
         are_kept(self.config().servers(), config.servers())
     }
 
-    /// The same generations once more. The only error is `AllocError`, where memory is refused.
+    /// These generations once more. The only error is `AllocError`, where memory is refused.
     pub fn copy(&self, alloc: Global) -> Result<Accepted, AllocError>
         ensures { IfOk result (λ accepted. accepted ≡ self.now) }
     {

@@ -39,7 +39,7 @@ impl<'a> Pool<'a> {
         Pool { servers }
     }
 
-    /// The same pool once more. It takes no memory.
+    /// This pool once more. It takes no memory.
     pub fn again(&self) -> Pool<'a>
         ensures { result ≡ self.now }
     {

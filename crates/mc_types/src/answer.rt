@@ -161,7 +161,7 @@ impl Answer {
         ask.op == Op::Delete && self.says_gone()
     }
 
-    /// The same answer once more, with its data shared. The only error is running out of memory.
+    /// This answer once more, with its data shared. The only error is running out of memory.
     pub fn copy(&self) -> Result<Answer, AllocError>
         ensures { IfOk result (λ answer. answer ≡ self.now) }
     {

@@ -122,7 +122,7 @@ impl Ask {
         cas_in_range(self.cas);
     }
 
-    /// The same ask once more, with its data shared. The only error is running out of memory.
+    /// This ask once more, with its data shared. The only error is running out of memory.
     pub fn copy(&self) -> Result<Ask, AllocError>
         ensures { IfOk result (λ ask. ask ≡ self.now) }
     {

@@ -162,7 +162,7 @@ impl Body {
         self.as_slice().len()
     }
 
-    /// The same bytes once more, shared: it takes no memory, and is refused only where the count of sharers is full.
+    /// These bytes once more, shared: it takes no memory, and is refused only where the count of sharers is full.
     pub fn copy(&self) -> Result<Body, AllocError>
         ensures { IfOk result (λ body. body ≡ self.now) }
     {

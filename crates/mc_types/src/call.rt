@@ -53,7 +53,7 @@ pub enum Outcome {
 }
 
 impl Outcome {
-    /// The same outcome once more, with its data shared. The only error is running out of memory.
+    /// This outcome once more, with its data shared. The only error is running out of memory.
     pub fn copy(&self) -> Result<Outcome, AllocError>
         ensures { IfOk result (λ outcome. outcome ≡ self.now) }
     {

@@ -83,7 +83,7 @@ impl ErrorText {
         }
     }
 
-    /// The same text once more. It takes no memory.
+    /// This text once more. It takes no memory.
     pub fn copy(&self) -> Result<ErrorText, AllocError>
         ensures { IfOk result (λ text. text ≡ self.now) }
     {

@@ -112,7 +112,7 @@ impl SharedAsk {
         &self.get().key
     }
 
-    /// The same ask once more, shared: it takes no memory, and is refused only where the count of sharers is full.
+    /// This ask once more, shared: it takes no memory, and is refused only where the count of sharers is full.
     pub fn copy(&self) -> Result<SharedAsk, AllocError>
         ensures { IfOk result (λ ask. ask ≡ self.now) }
     {

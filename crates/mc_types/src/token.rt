@@ -148,7 +148,7 @@ impl Tokens {
         self.list.as_slice()
     }
 
-    /// The same flags once more. The only error is running out of memory.
+    /// These flags once more. The only error is running out of memory.
     pub fn copy(&self) -> Result<Tokens, AllocError>
         ensures { IfOk result (λ tokens. tokens ≡ self.now) }
     {

@@ -16,7 +16,7 @@ pub struct ServerNews {
 impl Display for ServerNews {
     fn fmt<W: fmt::Write>(&self, f: &mut fmt::Formatter<W>) -> fmt::Result {
         match (self.news, self.flushes) {
-            (LinkNews::Failed(Cause::Foreign, times), true) => {
+            (LinkNews::Failed(Cause::ForeignAnswer, times), true) => {
                 write!(
                     f,
                     "failed: it doesn't answer flush_all by OK, {times} in a row"

@@ -65,7 +65,7 @@ impl Config {
         &self.servers
     }
 
-    /// The same configuration once more, its tree shared. The only error: memory was refused.
+    /// This configuration once more, its tree shared. The only error: memory was refused.
     pub fn copy(&self, alloc: Global) -> Result<Config, AllocError>
         ensures { IfOk result (λ config. config ≡ self.now) }
     {

@@ -89,7 +89,7 @@ impl Tree {
         self.form.as_ref()
     }
 
-    /// The same tree once more, shared: it takes no memory, and is refused only where the count of sharers is full.
+    /// This tree once more, shared: it takes no memory, and is refused only where the count of sharers is full.
     pub fn copy(&self) -> Result<Tree, AllocError>
         ensures { IfOk result (λ tree. tree ≡ self.now) }
     {

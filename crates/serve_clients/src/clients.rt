@@ -225,7 +225,7 @@ impl Client {
     {
         self.has_passed();
         self.leaves = match self.leaves {
-            None if is_closed => Some(Departure::Foreign),
+            None if is_closed => Some(Departure::NotMemcached),
             leaves => leaves,
         };
     }

@@ -10,7 +10,7 @@ pub enum Departure {
     /// It said `quit`.
     Quit,
     /// It sent what ends a conversation, as it is none of memcached's: a line that is too long, the binary protocol, or HTTP.
-    Foreign,
+    NotMemcached,
     /// Its connection failed.
     Broken,
     /// It took nothing for too long, while much was to be sent to it.
@@ -27,7 +27,7 @@ pub enum Departure {
 pub const DEPARTURES: [Departure; 8] = [
     Departure::Ended,
     Departure::Quit,
-    Departure::Foreign,
+    Departure::NotMemcached,
     Departure::Broken,
     Departure::Stalled,
     Departure::MostHeld,
@@ -48,7 +48,7 @@ impl Departure {
         match self {
             Departure::Ended => "ended",
             Departure::Quit => "quit",
-            Departure::Foreign => "foreign",
+            Departure::NotMemcached => "foreign",
             Departure::Broken => "broken",
             Departure::Stalled => "stalled",
             Departure::MostHeld => "most_held",
@@ -64,7 +64,7 @@ impl Departure {
         match self {
             Departure::Ended => 0,
             Departure::Quit => 1,
-            Departure::Foreign => 2,
+            Departure::NotMemcached => 2,
             Departure::Broken => 3,
             Departure::Stalled => 4,
             Departure::MostHeld => 5,

@@ -57,13 +57,13 @@ tells_over told rest dialect is = record {
 pub reads_dialect : (bytes : List ℕ) (read : DialectRead) → TellsDialect bytes read → ReadsDialect asks.Auto bytes read
 reads_dialect bytes (reads.Told dialect used) is = (used_within bytes dialect used is, front_greets bytes dialect used is)
 reads_dialect bytes reads.More is = tt
-reads_dialect bytes reads.Foreign is = λ more dialect told rest e tells. is.1 more dialect (length told) (subst (λ l. IsDialectLine l dialect (length told)) (sym e) (tells_over told rest dialect tells))
+reads_dialect bytes reads.Neither is = λ more dialect told rest e tells. is.1 more dialect (length told) (subst (λ l. IsDialectLine l dialect (length told)) (sym e) (tells_over told rest dialect tells))
 
 -- where nothing is to be said before
 pub reads_alone : (greeting : Greeting) (bytes : List ℕ) (read : DialectRead) → greeting.flushes ≡ false → ReadsDialect greeting.dialect bytes read → ReadsGreeting greeting bytes read
 reads_alone greeting bytes (reads.Told dialect used) off is = (is.0, (take used bytes, ap (λ b. flushed_of b ++ take used bytes) (sym off), is.1))
 reads_alone greeting bytes reads.More off is = tt
-reads_alone greeting bytes reads.Foreign off is = λ more dialect said rest e greets. is more dialect said rest e (subst (TellsIn greeting.dialect dialect) (sym (greets.1 ∙ ap (λ b. flushed_of b ++ greets.0) off)) greets.2)
+reads_alone greeting bytes reads.Neither off is = λ more dialect said rest e greets. is more dialect said rest e (subst (TellsIn greeting.dialect dialect) (sym (greets.1 ∙ ap (λ b. flushed_of b ++ greets.0) off)) greets.2)
 
 -- where it is said that the server has emptied itself, what stands behind that
 pub reads_behind : (greeting : Greeting) (rest : List ℕ) (read : DialectRead) → greeting.flushes ≡ true → ReadsDialect greeting.dialect rest read → ReadsGreeting greeting (codes "OK\r\n" ++ rest) (four_more read)
@@ -77,7 +77,7 @@ reads_behind greeting rest (reads.Told dialect used) on is =
     within : (n : ℕ) (l : List ℕ) → n ≤ length l → n + 4 ≤ length (codes "OK\r\n" ++ l)
     within n l le = omega (arith, le)
 reads_behind greeting rest reads.More on is = tt
-reads_behind greeting rest reads.Foreign on is = λ more dialect said later e greets.
+reads_behind greeting rest reads.Neither on is = λ more dialect said later e greets.
     is more dialect greets.0 later (ap (drop 4) (e ∙ ap (λ l. l ++ later) (greets.1 ∙ ap (λ b. flushed_of b ++ greets.0) on))) greets.2
 
 -- where the first four bytes don't say it, nothing does

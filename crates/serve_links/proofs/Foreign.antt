@@ -44,9 +44,9 @@ late_none x c was off none = is_foreign x c was (subst (λ o. IsForeign o (said_
 
 -- as these tell
 pub passed_none :
-    (late : List LateCall) (bytes : List ℕ) (read : Result ℕ Left) (late' : List LateCall) (bytes' : List ℕ) → read ≡ Err lefts.Foreign → PassesOver late bytes read late' bytes' → IsForeignToLate late' bytes'
+    (late : List LateCall) (bytes : List ℕ) (read : Result ℕ Left) (late' : List LateCall) (bytes' : List ℕ) → read ≡ Err lefts.NoAnswer → PassesOver late bytes read late' bytes' → IsForeignToLate late' bytes'
 passed_none late bytes read late' bytes' is passes =
-    let p : PassesOver late bytes (Err lefts.Foreign) late' bytes' = subst (λ r. PassesOver late bytes r late' bytes') is passes in
+    let p : PassesOver late bytes (Err lefts.NoAnswer) late' bytes' = subst (λ r. PassesOver late bytes r late' bytes') is passes in
     subst (λ (l : List LateCall). IsForeignToLate l bytes') (sym p.0) (subst (λ (l : List ℕ). IsForeignToLate late l) (sym p.1) (p.2 refl))
 
 -- the first late call is in front of them
@@ -66,7 +66,7 @@ none_awaited x c was none alone off some =
     is_foreign x c was (subst (λ o. IsForeign o (said_late x.late.items ++ said_asks x.calls.sent.items) c.held.items) (sym off) sent)
 
 -- a link that agrees shows that
-shows : (at : ℕ) (past : List Step) (h : List WireEvent) (y : Link) (conn : Conn) → y.conn ≡ Some conn → LineAgrees at past h y → LineIsForeign y → ShowsWhy (Some causes.Foreign) y.limits.connect_ms (talk_in past at) conn.number h
+shows : (at : ℕ) (past : List Step) (h : List WireEvent) (y : Link) (conn : Conn) → y.conn ≡ Some conn → LineAgrees at past h y → LineIsForeign y → ShowsWhy (Some causes.ForeignAnswer) y.limits.connect_ms (talk_in past at) conn.number h
 shows at past h y conn there a is =
     let t = a.conn conn there in
     let held : IsForeign y.awaits_dialect (said_late y.late.items ++ said_asks y.calls.sent.items) conn.held.items =
@@ -77,8 +77,8 @@ shows at past h y conn there a is =
     subst (λ (l : List SaidAsk). IsForeign y.awaits_dialect ((talk_in past at).late ++ l) conn.held.items) (sym t.out_is) late in
     (conn.held.items, t.told_is, subst (λ o. IsForeign o ((talk_in past at).late ++ (talk_in past at).out) conn.held.items) (sym t.awaits_is) all)
 
-pub fails_foreign : (at : ℕ) (past : List Step) (h : List WireEvent) (y : Link) → LineIsForeign y → LineAgrees at past h y → LineFails (Some causes.Foreign) at past h y
-fails_foreign at past h y is a = as_failing (Some causes.Foreign) at past h y (λ conn there. shows at past h y conn there a is) a
+pub fails_foreign : (at : ℕ) (past : List Step) (h : List WireEvent) (y : Link) → LineIsForeign y → LineAgrees at past h y → LineFails (Some causes.ForeignAnswer) at past h y
+fails_foreign at past h y is a = as_failing (Some causes.ForeignAnswer) at past h y (λ conn there. shows at past h y conn there a is) a
 
 -- what is held begins no answer to the first of those that are out, as the core has them
 sent_foreign : (at : ℕ) (past : List Step) (core : ServedCore) (sent : List SentCall) (held : List ℕ) → TellsCallsOut past core → AreCalled past at (said_asks sent) → HoldsForeign sent held core → IsForeign None (said_asks sent) held
@@ -90,7 +90,7 @@ sent_foreign at past core (call ∷ sent) held tells called is = is.foreign call
 
 pub line_foreign :
     {P : ℕ → List Step → List WireEvent → Link → Type 0} {Is : Step → Type 0} {at : ℕ} {a b : ServedCore} {h h' : List WireEvent} {x : Link} (y : Link) (d : Conn) → y.conn ≡ Some d → y.awaits_dialect ≡ None → y.late.items ≡ []
-    → HoldsForeign y.calls.sent.items d.held.items b → LineGoesFrom P LineAgrees Is at a h x b h' y → LineGoesFrom P (LineFails (Some causes.Foreign)) Is at a h x b h' y
+    → HoldsForeign y.calls.sent.items d.held.items b → LineGoesFrom P LineAgrees Is at a h x b h' y → LineGoesFrom P (LineFails (Some causes.ForeignAnswer)) Is at a h x b h' y
 line_foreign {P} {Is} {at} {a} {b} {h} {h'} {x} y d there off alone is g = record {
   steps = g.steps;
   kinds = g.kinds;
@@ -102,7 +102,7 @@ line_foreign {P} {Is} {at} {a} {b} {h} {h'} {x} y d there off alone is g = recor
   server = g.server;
 }
   where
-    fails : (past : List Step) → TellsCallsOut past a → LineAgrees at (g.steps ++ past) h' y → LineFails (Some causes.Foreign) at (g.steps ++ past) h' y
+    fails : (past : List Step) → TellsCallsOut past a → LineAgrees at (g.steps ++ past) h' y → LineFails (Some causes.ForeignAnswer) at (g.steps ++ past) h' y
     fails past tells agrees =
         let told = (walks_tell_calls.goes_on g.steps past a b tells g.walks).0 in
         let held = sent_foreign at (g.steps ++ past) b y.calls.sent.items d.held.items told agrees.called is in
@@ -114,5 +114,5 @@ line_foreign {P} {Is} {at} {a} {b} {h} {h'} {x} y d there off alone is g = recor
 -- a link goes on to agree, and holds what is foreign
 pub foreign_goes :
     {P : ℕ → List Step → List WireEvent → Link → Type 0} {Is : Step → Type 0} {at : ℕ} {a b : ServedCore} {h h' : List WireEvent} {x y : Link} → LineIsForeign y → LineGoesFrom P LineAgrees Is at a h x b h' y
-    → LineGoesFrom P (LineFails (Some causes.Foreign)) Is at a h x b h' y
+    → LineGoesFrom P (LineFails (Some causes.ForeignAnswer)) Is at a h x b h' y
 foreign_goes {at = at} {h' = h'} {y = y} is g = line_between (λ past was. was) (λ past was. fails_foreign at past h' y is was) g

@@ -26,7 +26,7 @@ some_held bytes e none = false_true (sym e ∙ ap (λ (l : List ℕ). eqb (lengt
 
 -- no answer to the first call begins so, and nothing has changed
 pub foreign :
-    (sent : List SentCall) (bytes : List ℕ) (a : ServedCore) (left : Left) (sent' : List SentCall) (b : ServedCore) → bytes ≢ [] → left ≡ lefts.Foreign → SettlesNext sent bytes a (nexts.Left left) sent' b
+    (sent : List SentCall) (bytes : List ℕ) (a : ServedCore) (left : Left) (sent' : List SentCall) (b : ServedCore) → bytes ≢ [] → left ≡ lefts.NoAnswer → SettlesNext sent bytes a (nexts.Left left) sent' b
     → HoldsForeign sent' bytes b
 foreign sent bytes a left sent' b some none is =
     subst (λ (s : List SentCall). HoldsForeign s bytes b) (sym is.1) (subst (λ (c : ServedCore). HoldsForeign sent bytes c) (sym is.2) (record { some = some; foreign = subst (λ (l : Left). IsLeft l sent bytes a.core) none is.0 }))

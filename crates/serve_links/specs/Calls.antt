@@ -83,7 +83,7 @@ IsForeignToFirst sent bytes core = (number : ℕ) (dialect : Dialect) (ask : Ask
 -- of the bytes this is left: they are cut before the end of the first call's answer, or no answer to it begins so; where memory was refused nothing is said of them
 abbrev pub IsLeft : Left → List SentCall → List ℕ → Core → Type 0
 IsLeft lefts.Begun sent bytes core = AwaitsFirst sent bytes core
-IsLeft lefts.Foreign sent bytes core = IsForeignToFirst sent bytes core
+IsLeft lefts.NoAnswer sent bytes core = IsForeignToFirst sent bytes core
 IsLeft lefts.NoMemory sent bytes core = Unit {0}
 
 -- the first call is settled by its answer, which the bytes begin with, or nothing is done
@@ -104,7 +104,7 @@ IsFirstLate (call ∷ sent) late = late ≡ Some (as_late call)
 -- so many bytes are the answer to a late call, or none are, or no answer to it begins so
 abbrev pub IsReadLate : LateCall → List ℕ → Result ℕ Left → Type 0
 IsReadLate call bytes (Ok used) = (answer : Answer) × SpellsIn call.dialect call.ask bytes answer used
-IsReadLate call bytes (Err left) = left ≡ lefts.Foreign → IsForeignIn call.dialect call.ask bytes
+IsReadLate call bytes (Err left) = left ≡ lefts.NoAnswer → IsForeignIn call.dialect call.ask bytes
 
 -- no answer to the first of these late calls begins with the bytes
 abbrev pub IsForeignToLate : List LateCall → List ℕ → Type 0
@@ -114,4 +114,4 @@ IsForeignToLate (call ∷ late) bytes = IsForeignIn call.dialect call.ask bytes
 -- the bytes begin with the answer to the first of these late calls: both are gone; or nothing has changed
 abbrev pub PassesOver : List LateCall → List ℕ → Result ℕ Left → List LateCall → List ℕ → Type 0
 PassesOver late bytes (Ok used) late' bytes' = (call : LateCall) × (late ≡ call ∷ late') × (bytes' ≡ drop used bytes) × ((answer : Answer) × SpellsIn call.dialect call.ask bytes answer used)
-PassesOver late bytes (Err left) late' bytes' = (late' ≡ late) × (bytes' ≡ bytes) × (left ≡ lefts.Foreign → IsForeignToLate late bytes)
+PassesOver late bytes (Err left) late' bytes' = (late' ≡ late) × (bytes' ≡ bytes) × (left ≡ lefts.NoAnswer → IsForeignToLate late bytes)

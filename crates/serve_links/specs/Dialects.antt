@@ -72,21 +72,21 @@ awaits_flush (Some greeting) = greeting.flushes
 abbrev pub ReadsDialect : ServerDialect → List ℕ → DialectRead → Type 0
 ReadsDialect asked bytes (reads.Told dialect used) = (used ≤ length bytes) × TellsIn asked dialect (take used bytes)
 ReadsDialect asked bytes reads.More = Unit {0}
-ReadsDialect asked bytes reads.Foreign = TellsNoDialect asked bytes
+ReadsDialect asked bytes reads.Neither = TellsNoDialect asked bytes
 
 abbrev pub ReadsGreeting : Greeting → List ℕ → DialectRead → Type 0
 ReadsGreeting greeting bytes (reads.Told dialect used) = (used ≤ length bytes) × Greets greeting dialect (take used bytes)
 ReadsGreeting greeting bytes reads.More = Unit {0}
-ReadsGreeting greeting bytes reads.Foreign = GreetsNone greeting bytes
+ReadsGreeting greeting bytes reads.Neither = GreetsNone greeting bytes
 
 -- it was told in fewer bytes than these
 abbrev pub IsUsedBelow : ℕ → DialectRead → Type 0
 IsUsedBelow most (reads.Told dialect used) = used < most
 IsUsedBelow most reads.More = Unit {0}
-IsUsedBelow most reads.Foreign = Unit {0}
+IsUsedBelow most reads.Neither = Unit {0}
 
 -- a dialect was told in four bytes more
 abbrev pub four_more : DialectRead → DialectRead
 four_more (reads.Told dialect used) = reads.Told dialect (used + 4)
 four_more reads.More = reads.More
-four_more reads.Foreign = reads.Foreign
+four_more reads.Neither = reads.Neither

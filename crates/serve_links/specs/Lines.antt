@@ -141,7 +141,7 @@ ReadsAway (Some causes.Broken) c h h' = h' ≡ fails c ∷ h
 ReadsAway (Some causes.Unreachable) c h h' = ⊥
 ReadsAway (Some causes.ConnectLate) c h h' = ⊥
 ReadsAway (Some causes.AnswerLate) c h h' = ⊥
-ReadsAway (Some causes.Foreign) c h h' = ⊥
+ReadsAway (Some causes.ForeignAnswer) c h h' = ⊥
 ReadsAway (Some causes.NoRoom) c h h' = ⊥
 ReadsAway (Some causes.VainReads) c h h' = ⊥
 

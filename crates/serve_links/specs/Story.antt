@@ -250,7 +250,7 @@ Shows causes.ConnectLate limit talk c h = IsBegunBefore limit c h
 Shows causes.AnswerLate limit talk c h = (talk.late ≢ []) ⊎ IsStoreFirst talk.out ⊎ (talk.stands ≡ Ending)
 Shows causes.Closed limit talk c h = HasHappened (ends c) h
 Shows causes.Broken limit talk c h = HasHappened (fails c) h
-Shows causes.Foreign limit talk c h = (held : List ℕ) × (delivered c h ≡ talk.told ++ held) × IsForeign talk.awaits (talk.late ++ talk.out) held
+Shows causes.ForeignAnswer limit talk c h = (held : List ℕ) × (delivered c h ≡ talk.told ++ held) × IsForeign talk.awaits (talk.late ++ talk.out) held
 Shows causes.NoRoom limit talk c h = Unit {0}
 Shows causes.VainReads limit talk c h = talk.out ≢ []
 

@@ -37,7 +37,7 @@ standing_after (Some causes.ConnectLate) = Apart
 standing_after (Some causes.AnswerLate) = Apart
 standing_after (Some causes.Closed) = Apart
 standing_after (Some causes.Broken) = Apart
-standing_after (Some causes.Foreign) = Ending
+standing_after (Some causes.ForeignAnswer) = Ending
 standing_after (Some causes.NoRoom) = Ending
 standing_after (Some causes.VainReads) = Ending
 

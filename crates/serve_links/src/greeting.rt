@@ -60,7 +60,7 @@ pub fn read_greeting(greeting: Greeting, bytes: &[u8]) -> DialectRead
         return DialectRead::More;
     }
     if !is_flushed(&bytes[..4]) {
-        return DialectRead::Foreign;
+        return DialectRead::Neither;
     }
     four_more(read_told(greeting.dialect, &bytes[4..]))
 }

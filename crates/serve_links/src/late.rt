@@ -65,7 +65,7 @@ impl Link {
     fn throw_first(&mut self) -> Result<usize, Left>
         requires { self.old.awaits_dialect ≡ None }
         ensures goes { (at : ℕ) (core : ServedCore) (h : List WireEvent) → LineGoes IsOfTurn at core h self.old core h self.new }
-        ensures foreign { result ≡ Err Left.Foreign → LineIsForeign self.new }
+        ensures foreign { result ≡ Err Left.NoAnswer → LineIsForeign self.new }
         ensures told { self.new.awaits_dialect ≡ None }
     {
         let Some(conn) = self.conn.as_mut() else {
@@ -75,13 +75,13 @@ impl Link {
     }
 
     /// Late answers that are held whole are thrown away, one after another, where the server has answered what it was asked first. They settle nothing:
-    /// the core stays as it is. What is left where more are to come; after `None` no call is late any more. After `Left::Foreign` what is held begins no
+    /// the core stays as it is. What is left where more are to come; after `None` no call is late any more. After `Left::NoAnswer` what is held begins no
     /// answer to the first call whose answer is to come.
     pub fn throw_late(&mut self) -> Option<Left>
         requires { self.old.awaits_dialect ≡ None }
         ensures goes { (at : ℕ) (core : ServedCore) (h : List WireEvent) → LineGoes IsOfTurn at core h self.old core h self.new }
         ensures over { result ≡ None → self.new.late.items ≡ [] }
-        ensures foreign { result ≡ Some Left.Foreign → LineIsForeign self.new }
+        ensures foreign { result ≡ Some Left.NoAnswer → LineIsForeign self.new }
         ensures told { self.new.awaits_dialect ≡ None }
     {
         if !self.awaits_late() {

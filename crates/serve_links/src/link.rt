@@ -851,7 +851,7 @@ impl Link {
         };
         match read_greeting(greeting, conn.held.as_slice()) {
             DialectRead::More => true,
-            DialectRead::Foreign => false,
+            DialectRead::Neither => false,
             DialectRead::Told(dialect, used) => {
                 conn.use_up(used);
                 self.dialect = dialect;

@@ -20,7 +20,7 @@ pub enum Cause {
     /// Reading or writing failed.
     Broken,
     /// The server sent what begins no answer to the oldest call, or what nothing asked for.
-    Foreign,
+    ForeignAnswer,
     /// There was no room for what it sent: memory was refused for reading it, or as much was held of it as may be.
     NoRoom,
     /// As many reads in a row as were set brought no whole answer.
@@ -34,7 +34,7 @@ pub const CAUSES: [Cause; 8] = [
     Cause::AnswerLate,
     Cause::Closed,
     Cause::Broken,
-    Cause::Foreign,
+    Cause::ForeignAnswer,
     Cause::NoRoom,
     Cause::VainReads,
 ];
@@ -46,7 +46,7 @@ impl Cause {
         ensures closes { result ≡ false → standing_after (Some self) ≡ Apart }
     {
         match self {
-            Cause::Foreign | Cause::NoRoom | Cause::VainReads => true,
+            Cause::ForeignAnswer | Cause::NoRoom | Cause::VainReads => true,
             Cause::Unreachable
             | Cause::ConnectLate
             | Cause::AnswerLate
@@ -63,7 +63,7 @@ impl Cause {
             Cause::AnswerLate => "answer_late",
             Cause::Closed => "closed",
             Cause::Broken => "broken",
-            Cause::Foreign => "foreign",
+            Cause::ForeignAnswer => "foreign",
             Cause::NoRoom => "no_room",
             Cause::VainReads => "vain_reads",
         }
@@ -91,7 +91,7 @@ fn words_of(cause: Cause) -> &'static str {
         Cause::AnswerLate => "late answers didn't come",
         Cause::Closed => "it closed the connection",
         Cause::Broken => "reading or writing failed",
-        Cause::Foreign => "it sent what is no answer to the oldest call",
+        Cause::ForeignAnswer => "it sent what is no answer to the oldest call",
         Cause::NoRoom => "there was no room for what it sent",
         Cause::VainReads => "too many reads brought no whole answer",
     }

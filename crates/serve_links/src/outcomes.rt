@@ -172,7 +172,7 @@ fn whole_front(from: usize, held: &[u8]) -> Option<usize> {
 // What stands in front, if that is an answer to stop at.
 fn front_stop(stops: Stops, held: &[u8]) -> Option<HeldStop>
     ensures begun { IfSome result (λ stop. stop ≢ HeldStop.Left Left.Begun) }
-    ensures foreign { IfSome result (λ stop. stop ≢ HeldStop.Left Left.Foreign) }
+    ensures foreign { IfSome result (λ stop. stop ≢ HeldStop.Left Left.NoAnswer) }
 {
     let from = match stops {
         Stops::Never => return None,
@@ -197,7 +197,7 @@ fn settle_in(
 ) -> (usize, HeldStop)
     ensures core { GoesBy IsSettlement core.old core.new }
     ensures left { result.1 ≡ HeldStop.Left Left.Begun → HoldsNoAnswer calls.new.sent.items (drop result.0 received.now) core.new }
-    ensures foreign { result.1 ≡ HeldStop.Left Left.Foreign → HoldsForeign calls.new.sent.items (drop result.0 received.now) core.new }
+    ensures foreign { result.1 ≡ HeldStop.Left Left.NoAnswer → HoldsForeign calls.new.sent.items (drop result.0 received.now) core.new }
     ensures settled { SettlesSome calls.old.sent.items received.now core.old calls.new.sent.items (drop result.0 received.now) core.new }
     ensures front { SettlesFront calls.old.sent.items received.now core.old calls.new.sent.items core.new }
     ensures ends { KeepsEnds clients.old clients.new }
@@ -239,7 +239,7 @@ fn take_copied(
 ) -> Option<Left>
     ensures core { GoesBy IsSettlement core.old core.new }
     ensures left { result ≡ Some Left.Begun → HoldsNoAnswer calls.new.sent.items conn.new.held.items core.new }
-    ensures foreign { result ≡ Some Left.Foreign → HoldsForeign calls.new.sent.items conn.new.held.items core.new }
+    ensures foreign { result ≡ Some Left.NoAnswer → HoldsForeign calls.new.sent.items conn.new.held.items core.new }
     ensures settled { result ≢ Some Left.NoMemory → SettlesSome calls.old.sent.items conn.old.held.items core.old calls.new.sent.items conn.new.held.items core.new }
     ensures front { SettlesFront calls.old.sent.items conn.old.held.items core.old calls.new.sent.items core.new }
     ensures ends { KeepsEnds clients.old clients.new }
@@ -280,7 +280,7 @@ fn hold_any(conn: &mut Conn, front: &Bytes, used: usize) -> bool
 // What is left after the answers that were settled from a part that was cut off, of which the rest is held again or not.
 fn left_after(stop: HeldStop, is_kept: bool) -> Left
     ensures begun { result ≡ Left.Begun → stop ≡ HeldStop.Left Left.Begun }
-    ensures foreign { result ≡ Left.Foreign → stop ≡ HeldStop.Left Left.Foreign }
+    ensures foreign { result ≡ Left.NoAnswer → stop ≡ HeldStop.Left Left.NoAnswer }
     ensures kept { result ≢ Left.NoMemory → is_kept ≡ true }
 {
     match stop {
@@ -300,7 +300,7 @@ fn take_long(
 ) -> Option<Left>
     ensures core { GoesBy IsSettlement core.old core.new }
     ensures left { result ≡ Some Left.Begun → HoldsNoAnswer calls.new.sent.items conn.new.held.items core.new }
-    ensures foreign { result ≡ Some Left.Foreign → HoldsForeign calls.new.sent.items conn.new.held.items core.new }
+    ensures foreign { result ≡ Some Left.NoAnswer → HoldsForeign calls.new.sent.items conn.new.held.items core.new }
     ensures settled { result ≢ Some Left.NoMemory → SettlesSome calls.old.sent.items conn.old.held.items core.old calls.new.sent.items conn.new.held.items core.new }
     ensures front { SettlesFront calls.old.sent.items conn.old.held.items core.old calls.new.sent.items core.new }
     ensures ends { KeepsEnds clients.old clients.new }
@@ -333,7 +333,7 @@ fn take_large(
 ) -> Option<Left>
     ensures core { GoesBy IsSettlement core.old core.new }
     ensures left { result ≡ Some Left.Begun → HoldsNoAnswer calls.new.sent.items conn.new.held.items core.new }
-    ensures foreign { result ≡ Some Left.Foreign → HoldsForeign calls.new.sent.items conn.new.held.items core.new }
+    ensures foreign { result ≡ Some Left.NoAnswer → HoldsForeign calls.new.sent.items conn.new.held.items core.new }
     ensures settled { result ≢ Some Left.NoMemory → SettlesSome calls.old.sent.items conn.old.held.items core.old calls.new.sent.items conn.new.held.items core.new }
     ensures front { SettlesFront calls.old.sent.items conn.old.held.items core.old calls.new.sent.items core.new }
     ensures ends { KeepsEnds clients.old clients.new }
@@ -390,7 +390,7 @@ fn told(has_settled: bool, left: Left, held: &[u8]) -> HeldAnswers
 // What is left where nothing should be.
 fn left_of(conn: &Conn) -> Left
     ensures begun { result ≡ Left.Begun → conn.now.held.items ≡ [] }
-    ensures known { result ≢ Left.Foreign }
+    ensures known { result ≢ Left.NoAnswer }
 {
     if conn.held.is_empty() {
         Left::Begun
@@ -411,7 +411,7 @@ pub fn settle_held(
 ) -> HeldAnswers
     ensures core { GoesBy IsSettlement core.old core.new }
     ensures left { result.left ≡ Left.Begun → HoldsNoAnswer calls.new.sent.items conn.new.held.items core.new }
-    ensures foreign { result.left ≡ Left.Foreign → HoldsForeign calls.new.sent.items conn.new.held.items core.new }
+    ensures foreign { result.left ≡ Left.NoAnswer → HoldsForeign calls.new.sent.items conn.new.held.items core.new }
     ensures settled { result.left ≢ Left.NoMemory → SettlesSome calls.old.sent.items conn.old.held.items core.old calls.new.sent.items conn.new.held.items core.new }
     ensures front { SettlesFront calls.old.sent.items conn.old.held.items core.old calls.new.sent.items core.new }
     ensures ends { KeepsEnds clients.old clients.new }

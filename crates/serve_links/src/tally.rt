@@ -61,7 +61,7 @@ fn cause_place(cause: Cause) -> usize
         Cause::ConnectLate => 1,
         Cause::Closed => 2,
         Cause::Broken => 3,
-        Cause::Foreign => 4,
+        Cause::ForeignAnswer => 4,
         Cause::VainReads => 5,
         Cause::AnswerLate => 6,
         Cause::NoRoom => 7,

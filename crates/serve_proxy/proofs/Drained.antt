@@ -46,7 +46,7 @@ read_over causes.Broken c h k noted = (refl, reads_on c 1 [] got.Failed [] h k (
 read_over causes.Unreachable c h k never = absurd never
 read_over causes.ConnectLate c h k never = absurd never
 read_over causes.AnswerLate c h k never = absurd never
-read_over causes.Foreign c h k never = absurd never
+read_over causes.ForeignAnswer c h k never = absurd never
 read_over causes.NoRoom c h k never = absurd never
 read_over causes.VainReads c h k never = absurd never
 

@@ -112,7 +112,7 @@ over_of (Some what) = over_by what
 
 -- why a link is to be given up on which nothing is out: nothing may come over it
 abbrev pub idle_cause : Got → Option Cause
-idle_cause got.Bytes = Some causes.Foreign
+idle_cause got.Bytes = Some causes.ForeignAnswer
 idle_cause got.Nothing = None
 idle_cause got.Full = Some causes.NoRoom
 idle_cause got.Ended = Some causes.Closed

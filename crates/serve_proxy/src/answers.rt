@@ -123,7 +123,7 @@ fn take_said(
 {
     let has_answered = awaits_other(link);
     if !link.learn() {
-        return Some(Cause::Foreign);
+        return Some(Cause::ForeignAnswer);
     }
     if link.awaits_greeting() {
         return vain(link.has_read(false, polls));
@@ -131,7 +131,7 @@ fn take_said(
     if let Some(left) = link.throw_late() {
         return match left {
             Left::Begun => None,
-            Left::Foreign => Some(Cause::Foreign),
+            Left::NoAnswer => Some(Cause::ForeignAnswer),
             Left::NoMemory => Some(Cause::NoRoom),
         };
     }
@@ -160,7 +160,7 @@ fn take_answers(
     let has_failed = link.has_read(has_answered || answers.has_settled, polls);
     match answers.left {
         Left::Begun => vain(has_failed),
-        Left::Foreign => Some(Cause::Foreign),
+        Left::NoAnswer => Some(Cause::ForeignAnswer),
         Left::NoMemory => Some(Cause::NoRoom),
     }
 }

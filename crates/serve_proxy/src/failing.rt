@@ -242,7 +242,7 @@ fn idle_fault(got: Got) -> Option<Cause>
 {
     match got {
         Got::Nothing => None,
-        Got::Bytes => Some(Cause::Foreign),
+        Got::Bytes => Some(Cause::ForeignAnswer),
         Got::Full => Some(Cause::NoRoom),
         Got::Ended => Some(Cause::Closed),
         Got::Failed => Some(Cause::Broken),

@@ -18,7 +18,7 @@ use Rattle.mc_types.specs.declared.ask.Dialect.TheVariants.{Classic}
 use Rattle.mc_types.specs.declared.answer.Answer.{Answer}
 use Rattle.mc_types.specs.declared.answer.Answer.TheVariants as answers
 use Rattle.wire_answers.specs.declared.line_kinds.FirstLine.{FirstLine}
-use Rattle.wire_answers.specs.declared.line_kinds.FirstLine.TheVariants.{Whole, Hit, Value, Foreign}
+use Rattle.wire_answers.specs.declared.line_kinds.FirstLine.TheVariants.{Whole, Hit, Value, NoAnswer}
 use Rattle.wire_answers.specs.declared.line_kinds.HitLine.{HitLine}
 use Rattle.wire_answers.specs.Table.{looked_up, store_answers, of_cas, of_fetch, delete_answers, of_touch, count_answers, number_or, word_answer}
 use Rattle.wire_answers.specs.FirstLine.{kind_of_line, words_said, error_said, error_text, is_error_text, after_word, cas_said, hit_said, is_fetch, hit_or_foreign, whole_or_foreign, one_word_line, in_dialect}
@@ -38,7 +38,7 @@ abbrev SaidFits : Op → Bool → FirstLine → Type 0
 SaidFits op with_cas (Whole answer) = Taken op with_cas answer
 SaidFits op with_cas (Hit hit) = IsHitOf with_cas hit × (is_fetch op ≡ true)
 SaidFits op with_cas (Value line) = ⊥
-SaidFits op with_cas Foreign = Unit {0}
+SaidFits op with_cas NoAnswer = Unit {0}
 
 below_limit : (limit : ℕ) (w : List ℕ) → IfSome (number_below limit w) (λ n. n < limit)
 below_limit limit w = cond_both (is_number w && ltb (digits_value 10 w) limit) (Some (digits_value 10 w)) None (λ (o : Option ℕ). IfSome o (λ n. n < limit))
@@ -168,7 +168,7 @@ follows_fit op wc (Whole x) rest answer used h f = subst (Taken op wc) (sym f.0)
 follows_fit op wc (Hit hit) rest answer used h f =
     subst (Taken op wc) (sym f.3) ((h.0.0, omega (arith, f.4, h.0.1), h.0.2), hit_listed op wc hit.flags f.0 hit.cas h.1 h.0.3)
 follows_fit op wc (Value line) rest answer used h f = absurd h
-follows_fit op wc Foreign rest answer used h f = absurd f
+follows_fit op wc NoAnswer rest answer used h f = absurd f
 
 pub classic_taken : (ask : Ask) → ask.dialect ≡ Classic → (line rest : List ℕ) (answer : Answer) (used : ℕ) → FollowsLine (kind_of_line ask line) rest answer used → Taken ask.op ask.with_cas answer
 classic_taken ask classic line rest answer used f = follows_fit ask.op ask.with_cas (kind_of_line ask line) rest answer used (said_fits ask line classic) f

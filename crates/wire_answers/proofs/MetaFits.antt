@@ -19,7 +19,7 @@ use Rattle.wire_answers.specs.Line.{meta_said}
 use Rattle.wire_answers.proofs.MetaFitLemmas.{IsLineOf, said_is, told_stand, told_range}
 use Rattle.wire_answers.proofs.Fitting.{none_bare, none_range, hd_fits, bare_fits, va_fits}
 use Rattle.wire_answers.specs.declared.line_kinds.FirstLine.{FirstLine}
-use Rattle.wire_answers.specs.declared.line_kinds.FirstLine.TheVariants.{Whole, Hit, Value, Foreign}
+use Rattle.wire_answers.specs.declared.line_kinds.FirstLine.TheVariants.{Whole, Hit, Value, NoAnswer}
 use Rattle.wire_answers.specs.FirstLine.{kind_of_line, words_said, error_said, error_text, is_error_word, line_or_foreign, meta_or_error, in_dialect}
 use Rattle.wire_answers.specs.Reading.{FollowsLine, is_data}
 use Rattle.wire_answers.proofs.FitLemmas.{text_is, classic_taken}
@@ -34,7 +34,7 @@ module _ (ask : Ask) (shape : HasShapeOf ask (meta_shape ask.op)) where
   SaidFits (Whole answer) = Taken answer
   SaidFits (Hit hit) = ⊥
   SaidFits (Value line) = IsLineOf ask (lines.Value line)
-  SaidFits Foreign = Unit {0}
+  SaidFits NoAnswer = Unit {0}
 
   client_fits : (o : Option (List ℕ)) → IfSome o IsErrorText → SaidFits (error_said answers.ClientError o)
   client_fits (Some text) h = (h, refl)
@@ -73,7 +73,7 @@ module _ (ask : Ask) (shape : HasShapeOf ask (meta_shape ask.op)) where
         told_range ask line.told (Some f.0) le h.0.0,
         va_fits ask.op ask.tokens (fields_told line.told (Some f.0)) f.0 line.len refl h.1 (told_stand ask line.told (Some f.0) true refl h.0.1) h.3 f.3 (λ at. is_number line.is_number f.0 f.6 (h.4 ∙ at)),
       )
-  follows_fit Foreign rest answer used h f = absurd f
+  follows_fit NoAnswer rest answer used h f = absurd f
 
   pub meta_taken : ask.dialect ≡ dialects.Meta → (line rest : List ℕ) (answer : Answer) (used : ℕ) → FollowsLine (kind_of_line ask line) rest answer used → Taken answer
   meta_taken is line rest answer used f = follows_fit (kind_of_line ask line) rest answer used (words_fit is (error_text line) (words line) (text_is line)) f

@@ -8,7 +8,7 @@ use Rattle.std.proofs.Math.Seq.{drop-append_seam}
 use Rattle.mc_types.specs.declared.ask.Ask.{Ask}
 use Rattle.mc_types.specs.declared.answer.Answer.{Answer}
 use Rattle.wire_answers.specs.declared.line_kinds.FirstLine.{FirstLine}
-use Rattle.wire_answers.specs.declared.line_kinds.FirstLine.TheVariants.{Whole, Hit, Value, Foreign}
+use Rattle.wire_answers.specs.declared.line_kinds.FirstLine.TheVariants.{Whole, Hit, Value, NoAnswer}
 use Rattle.wire_answers.specs.declared.line_kinds.HitLine.{HitLine}
 use Rattle.mc_types.specs.declared.answer.Code.TheVariants.{Va}
 use Rattle.mc_types.specs.declared.answer.Fields.{Fields}
@@ -35,7 +35,7 @@ cut_no_follow (Hit hit) rest cut answer used f =
 cut_no_follow (Value line) rest cut answer used f =
     cut_no_data_end (drop line.len rest) cut (subst IsDataEnd (sym (after_body line.len rest f.0 f.1 f.3 f.4)) f.5)
 cut_no_follow (Whole a) rest cut answer used f = cut
-cut_no_follow Foreign rest cut answer used f = cut
+cut_no_follow NoAnswer rest cut answer used f = cut
 
 pub cut_not_spelled : (ask : Ask) (bytes : List ℕ) → IsCut ask bytes → (answer : Answer) (used : ℕ) → ¬ Spells ask bytes answer used
 cut_not_spelled ask bytes (inl partial) answer used s = open_no_line bytes s.text s.rest partial s.line
@@ -187,7 +187,7 @@ follows_within : (s : FirstLine) (rest : List ℕ) (answer : Answer) (used : ℕ
 follows_within (Whole x) rest answer used f = omega (arith, f.1)
 follows_within (Hit hit) rest answer used f = omega (arith, f.4, f.7, ap length f.5, length-append f.0 f.1, end_within f.1 f.2 f.6)
 follows_within (Value line) rest answer used f = omega (arith, f.3, f.7, ap length f.4, length-append f.0 f.1, ap length f.5.1)
-follows_within Foreign rest answer used f = absurd f
+follows_within NoAnswer rest answer used f = absurd f
 
 pub spelled_within : (ask : Ask) (bytes : List ℕ) (answer : Answer) (used : ℕ) → Spells ask bytes answer used → used ≤ length bytes
 spelled_within ask bytes answer used s =

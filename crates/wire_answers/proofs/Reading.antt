@@ -5,7 +5,7 @@ use Rattle.text_words.proofs.Stays.{lines_stay, lines_are_determined}
 use Rattle.mc_types.specs.declared.answer.Answer.{Answer}
 use Rattle.mc_types.specs.declared.answer.Answer.TheVariants as answers
 use Rattle.wire_answers.specs.declared.line_kinds.FirstLine.{FirstLine}
-use Rattle.wire_answers.specs.declared.line_kinds.FirstLine.TheVariants.{Whole, Hit, Value, Foreign}
+use Rattle.wire_answers.specs.declared.line_kinds.FirstLine.TheVariants.{Whole, Hit, Value, NoAnswer}
 use Rattle.mc_types.specs.declared.answer.Code.TheVariants.{Va}
 use Rattle.wire_answers.specs.Told.{fields_told}
 use Rattle.wire_answers.specs.FirstLine.{kind_of_line}
@@ -35,7 +35,7 @@ one_follows (Hit hit) rest a b m n f g =
 one_follows (Value line) rest a b m n f g =
     let parts = same_front f.0 g.0 f.1 g.1 (f.3 ∙ sym g.3) (sym f.4 ∙ g.4) in
     (f.2 ∙ ap (λ (t : List ℕ). answers.Meta Va (fields_told line.told (Some t))) parts.0 ∙ sym g.2, f.7 ∙ sym g.7)
-one_follows Foreign rest a b m n f g = absurd f
+one_follows NoAnswer rest a b m n f g = absurd f
 
 pub one_answer : OneAnswer
 one_answer ask bytes a b m n s t =
@@ -68,7 +68,7 @@ follows_stay (Hit hit) rest more answer used f =
     (f.0, f.1 ++ more, f.2, f.3, f.4, ap (λ (t : List ℕ). t ++ more) f.5 ∙ append_assoc f.0 f.1 more, end_stays f.1 more f.2 f.6, f.7)
 follows_stay (Value line) rest more answer used f =
     (f.0, f.1 ++ more, f.2, f.3, ap (λ (t : List ℕ). t ++ more) f.4 ∙ append_assoc f.0 f.1 more, (f.5.0 ++ more, ap (λ (t : List ℕ). t ++ more) f.5.1), f.6, f.7)
-follows_stay Foreign rest more answer used f = absurd f
+follows_stay NoAnswer rest more answer used f = absurd f
 
 pub answers_stay : AnswersStay
 answers_stay ask bytes more answer used s = record {

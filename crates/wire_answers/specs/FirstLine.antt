@@ -22,7 +22,7 @@ use Rattle.wire_answers.specs.declared.meta.line.MetaLine.TheVariants as lines
 use Rattle.wire_answers.specs.Told.{none_told, fields_told}
 use Rattle.wire_answers.specs.Line.{meta_said}
 use Rattle.wire_answers.specs.declared.line_kinds.FirstLine.{FirstLine}
-use Rattle.wire_answers.specs.declared.line_kinds.FirstLine.TheVariants.{Whole, Hit, Value, Foreign}
+use Rattle.wire_answers.specs.declared.line_kinds.FirstLine.TheVariants.{Whole, Hit, Value, NoAnswer}
 use Rattle.wire_answers.specs.declared.line_kinds.HitLine.{HitLine}
 use Rattle.wire_answers.specs.Table.{word_answer}
 
@@ -46,7 +46,7 @@ error_text line = if is_error_text (after_word line) then Some (after_word line)
 -- an error line with this text
 abbrev pub error_said : (List ℕ → Answer) → Option (List ℕ) → FirstLine
 error_said error (Some text) = Whole (error text)
-error_said error None = Foreign
+error_said error None = NoAnswer
 
 -- the words after a hit's length: a cas number, which has to be there where it is asked for, and is dropped where not
 abbrev pub cas_said : Bool → List (List ℕ) → Option (Option ℕ)
@@ -73,17 +73,17 @@ is_fetch _ = false
 -- a line that says nothing to the ask is foreign
 abbrev pub hit_or_foreign : Option HitLine → FirstLine
 hit_or_foreign (Some hit) = Hit hit
-hit_or_foreign None = Foreign
+hit_or_foreign None = NoAnswer
 
 -- a line that says a whole answer is that answer; one that says nothing to the ask is foreign
 abbrev pub whole_or_foreign : Option Answer → FirstLine
 whole_or_foreign (Some answer) = Whole answer
-whole_or_foreign None = Foreign
+whole_or_foreign None = NoAnswer
 
 -- a line of one word
 abbrev pub one_word_line : Op → List ℕ → List (List ℕ) → FirstLine
 one_word_line op word [] = whole_or_foreign (word_answer op word)
-one_word_line op word (other ∷ more) = Foreign
+one_word_line op word (other ∷ more) = NoAnswer
 
 -- what a line of these words says to a classic ask
 abbrev pub classic_said : Ask → List ℕ → List (List ℕ) → FirstLine
@@ -99,7 +99,7 @@ line_said (lines.Other code) = Whole (Meta code (fields_told none_told None))
 
 abbrev pub line_or_foreign : Option MetaLine → FirstLine
 line_or_foreign (Some line) = line_said line
-line_or_foreign None = Foreign
+line_or_foreign None = NoAnswer
 
 abbrev pub is_error_word : List ℕ → List (List ℕ) → Bool
 is_error_word word [] = bytes_eq word (codes "ERROR")
@@ -115,7 +115,7 @@ in_dialect dialects.Meta ask word more = meta_or_error ask word more
 
 -- a line of these words, with this text of an error
 abbrev pub words_said : Ask → Option (List ℕ) → List (List ℕ) → FirstLine
-words_said ask text [] = Foreign
+words_said ask text [] = NoAnswer
 words_said ask text (word ∷ more) =
     if bytes_eq word (codes "CLIENT_ERROR") then error_said ClientError text
     else if bytes_eq word (codes "SERVER_ERROR") then error_said ServerError text

@@ -9,7 +9,7 @@ use Rattle.wire_answers.specs.Told.{fields_told}
 use Rattle.mc_types.specs.declared.answer.Answer.{Answer}
 use Rattle.mc_types.specs.declared.answer.Answer.TheVariants as answers
 use Rattle.wire_answers.specs.declared.line_kinds.FirstLine.{FirstLine}
-use Rattle.wire_answers.specs.declared.line_kinds.FirstLine.TheVariants.{Whole, Hit, Value, Foreign}
+use Rattle.wire_answers.specs.declared.line_kinds.FirstLine.TheVariants.{Whole, Hit, Value, NoAnswer}
 use Rattle.wire_answers.specs.declared.block_end.Ends.{Ends}
 use Rattle.wire_answers.specs.declared.block_end.Ends.TheVariants as ends
 use Rattle.wire_answers.specs.declared.reader.AnswerRead.{AnswerRead}
@@ -48,7 +48,7 @@ FollowsLine (Hit hit) rest answer used =
     (body : List ℕ) × (after : List ℕ) × (len : ℕ) × (answer ≡ answers.Hit hit.flags body hit.cas) × (length body ≡ hit.len) × (rest ≡ body ++ after) × IsBlockEnd after len × (used ≡ hit.len + len)
 FollowsLine (Value line) rest answer used =
     (body : List ℕ) × (after : List ℕ) × (answer ≡ answers.Meta Va (fields_told line.told (Some body))) × (length body ≡ line.len) × (rest ≡ body ++ after) × IsDataEnd after × (is_data line.is_number body ≡ true) × (used ≡ line.len + 2)
-FollowsLine Foreign rest answer used = ⊥
+FollowsLine NoAnswer rest answer used = ⊥
 
 -- the first so many bytes spell the answer to the ask
 pub record Spells (ask : Ask) (bytes : List ℕ) (answer : Answer) (used : ℕ) : Type 0 where
@@ -72,7 +72,7 @@ abbrev pub IsCutAfter : FirstLine → List ℕ → Type 0
 IsCutAfter (Hit hit) rest = IsCutEnd (drop hit.len rest)
 IsCutAfter (Value line) rest = IsCutDataEnd (drop line.len rest)
 IsCutAfter (Whole answer) rest = ⊥
-IsCutAfter Foreign rest = ⊥
+IsCutAfter NoAnswer rest = ⊥
 
 -- the first line isn't there yet, or what has to follow it isn't
 abbrev pub IsCut : Ask → List ℕ → Type 0

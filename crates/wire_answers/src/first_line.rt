@@ -244,15 +244,15 @@ fn classic_said(ask: &Ask, word: &[u8], line: &[u8], at: usize) -> FirstLine
     if word == b"VALUE".as_slice() && is_fetch(ask.op) {
         return match hit_line(ask, line, at) {
             Some(hit) => FirstLine::Hit(hit),
-            None => FirstLine::Foreign,
+            None => FirstLine::NoAnswer,
         };
     }
     if next_word(line, at).is_some() {
-        return FirstLine::Foreign;
+        return FirstLine::NoAnswer;
     }
     match word_answer(ask.op, word) {
         Some(answer) => FirstLine::Whole(answer),
-        None => FirstLine::Foreign,
+        None => FirstLine::NoAnswer,
     }
 }
 
@@ -283,7 +283,7 @@ fn meta_said(ask: &Ask, word: &[u8], line: &[u8], at: usize) -> FirstLine
     }
     match meta_line(ask, word, line, at) {
         Some(line) => line_said(line),
-        None => FirstLine::Foreign,
+        None => FirstLine::NoAnswer,
     }
 }
 
@@ -302,19 +302,19 @@ pub fn read_first_line(alloc: Global, ask: &Ask, line: &[u8]) -> Result<FirstLin
     ensures { IfOk result (λ s. s ≡ kind_of_line ask.now line.now) }
 {
     let Some(first) = next_word(line, 0) else {
-        return Ok(FirstLine::Foreign);
+        return Ok(FirstLine::NoAnswer);
     };
     let word = &line[first.start..first.end];
     if word == b"CLIENT_ERROR".as_slice() {
         return Ok(match error_text(alloc, line)? {
             Some(text) => FirstLine::Whole(Answer::ClientError(text)),
-            None => FirstLine::Foreign,
+            None => FirstLine::NoAnswer,
         });
     }
     if word == b"SERVER_ERROR".as_slice() {
         return Ok(match error_text(alloc, line)? {
             Some(text) => FirstLine::Whole(Answer::ServerError(text)),
-            None => FirstLine::Foreign,
+            None => FirstLine::NoAnswer,
         });
     }
     Ok(in_dialect(ask, word, line, first.end))

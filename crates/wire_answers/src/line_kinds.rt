@@ -23,5 +23,5 @@ pub enum FirstLine {
     /// A meta answer with data, which follow.
     Value(ValueLine),
     /// No answer to the ask begins with this line.
-    Foreign,
+    NoAnswer,
 }

@@ -95,7 +95,7 @@ fn after_line(
         FirstLine::Whole(answer) => Ok(AnswerRead::Answer(answer, 0)),
         FirstLine::Hit(hit) => hit_after(alloc, spares, hit, rest),
         FirstLine::Value(line) => value_after(alloc, spares, line, rest),
-        FirstLine::Foreign => Ok(AnswerRead::Foreign),
+        FirstLine::NoAnswer => Ok(AnswerRead::Foreign),
     }
 }
 

@@ -23,4 +23,4 @@ pub record IsDialectLine (bytes : List ℕ) (dialect : Dialect) (used : ℕ) : T
 abbrev pub TellsDialect : List ℕ → DialectRead → Type 0
 TellsDialect bytes (reads.Told dialect used) = IsDialectLine bytes dialect used
 TellsDialect bytes reads.More = IsOpen bytes
-TellsDialect bytes reads.Foreign = (¬ IsOpen bytes) × ((more : List ℕ) (dialect : Dialect) (used : ℕ) → ¬ IsDialectLine (bytes ++ more) dialect used)
+TellsDialect bytes reads.Neither = (¬ IsOpen bytes) × ((more : List ℕ) (dialect : Dialect) (used : ℕ) → ¬ IsDialectLine (bytes ++ more) dialect used)

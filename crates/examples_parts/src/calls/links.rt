@@ -107,7 +107,7 @@ fn next_text(alloc: Global, next: Next) -> Result<String, Fail> {
     match next {
         Next::Settled { client, used } => Ok(format!(in alloc; "client {client} by {used}")?),
         Next::Left(Left::Begun) => Ok("more".to_string(alloc)?),
-        Next::Left(Left::Foreign) => Ok("foreign".to_string(alloc)?),
+        Next::Left(Left::NoAnswer) => Ok("foreign".to_string(alloc)?),
         Next::Left(Left::NoMemory) => Ok("no memory".to_string(alloc)?),
     }
 }

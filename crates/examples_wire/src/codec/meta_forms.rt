@@ -88,6 +88,6 @@ fn what_a_server_speaks(rt: HostRuntime) -> Result<(), Fail> {
     assert_eq!(rt; told_by(b"MN\r\nEN\r\n", Dialect::Meta), Some(4));
     assert_eq!(rt; told_by(b"ERROR\r\n", Dialect::Classic), Some(7));
     assert!(rt; matches!(read_dialect(b"MN\r"), DialectRead::More));
-    assert!(rt; matches!(read_dialect(b"EN\r\n"), DialectRead::Foreign));
+    assert!(rt; matches!(read_dialect(b"EN\r\n"), DialectRead::Neither));
     Ok(())
 }

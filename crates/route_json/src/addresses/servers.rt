@@ -112,7 +112,7 @@ impl Servers {
         Ok(ServerId::new(index as u32))
     }
 
-    /// The same servers once more. The only error is running out of memory.
+    /// These servers once more. The only error is running out of memory.
     pub fn copy(&self, alloc: Global) -> Result<Servers, AllocError>
         ensures { IfOk result (λ servers. servers ≡ self.now) }
     {

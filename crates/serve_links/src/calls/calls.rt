@@ -64,7 +64,7 @@ pub enum Left {
     /// Nothing, or the begin of the answer to the first call whose answer is to come.
     Begun,
     /// What begins no answer to that call, or what no call asked for.
-    Foreign,
+    NoAnswer,
     /// What can't be read or kept, as memory was refused for that.
     NoMemory,
 }
@@ -470,7 +470,7 @@ impl LinkCalls {
         ensures counts { self.new.times.tally ≡ with_next result self.old.times }
     {
         let Some((number, dialect)) = self.first_asked() else {
-            return Next::Left(Left::Foreign);
+            return Next::Left(Left::NoAnswer);
         };
         let Some(read) = read_next(
             dialect,
@@ -485,7 +485,7 @@ impl LinkCalls {
         };
         match read {
             AnswerRead::More => Next::Left(Left::Begun),
-            AnswerRead::Foreign => Next::Left(Left::Foreign),
+            AnswerRead::Foreign => Next::Left(Left::NoAnswer),
             AnswerRead::Answer(answer, used) => {
                 let expects = self.expects_after(used);
                 match self.give_first(core, Outcome::Answered(answer)) {
@@ -528,7 +528,7 @@ impl LinkCalls {
         match read {
             AnswerRead::Answer(_answer, used) => Ok(used),
             AnswerRead::More => Err(Left::Begun),
-            AnswerRead::Foreign => Err(Left::Foreign),
+            AnswerRead::Foreign => Err(Left::NoAnswer),
         }
     }
 

@@ -16,7 +16,7 @@ pub enum DialectRead {
     /// The server speaks the meta dialect too, or the classic one alone; and how many bytes the answer takes.
     Told(Dialect, usize),
     /// No answer to `mn` begins so.
-    Foreign,
+    Neither,
 }
 
 /// Appends `mn`, by whose answer [`read_dialect`] tells whether a server speaks the meta dialect.
@@ -49,10 +49,10 @@ pub fn read_dialect(bytes: &[u8]) -> DialectRead
 {
     match line(bytes) {
         Line::More => DialectRead::More,
-        Line::TooLong => DialectRead::Foreign,
+        Line::TooLong => DialectRead::Neither,
         Line::At { end, used } => match dialect_of(&bytes[..end]) {
             Some(dialect) => DialectRead::Told(dialect, used),
-            None => DialectRead::Foreign,
+            None => DialectRead::Neither,
         },
     }
 }

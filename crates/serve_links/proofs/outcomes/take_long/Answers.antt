@@ -7,7 +7,7 @@ use Rattle.serve_links.proofs.outcomes.take_long.Goals as goal
 same_left : {a b : Left} → Some a ≡ Some b → a ≡ b
 same_left e = cc
 
-foreign_lost : lefts.Foreign ≡ lefts.NoMemory → ⊥
+foreign_lost : lefts.NoAnswer ≡ lefts.NoMemory → ⊥
 foreign_lost e = cc
 
 pub returns-clause-settled : goal.returns-clause-settled

@@ -14,7 +14,7 @@ use Rattle.serve_proxy.proofs.answers.take_answers.Goals as goal
 none_lost : lefts.Begun ≡ lefts.NoMemory → ⊥
 none_lost e = cc
 
-foreign_lost : lefts.Foreign ≡ lefts.NoMemory → ⊥
+foreign_lost : lefts.NoAnswer ≡ lefts.NoMemory → ⊥
 foreign_lost e = cc
 
 pub returns-in_default : goal.returns-in_default
@@ -40,15 +40,15 @@ returns-in-Begun c =
       ends = c.settle_held-answers.ensures.ends;
     }
 
-pub returns-in-Foreign : goal.returns-in-Foreign
-returns-in-Foreign c =
+pub returns-in-NoAnswer : goal.returns-in-NoAnswer
+returns-in-NoAnswer c =
     let x = c.args.link.now in
     let k = c.in-Some.conn.now in
     let y = c.has_read-has_failed.new.self in
     let d = c.settle_held-answers.new.conn in
     let holds : HoldsForeign y.calls.sent.items d.held.items c.settle_held-answers.new.core =
-    subst (λ (l : List SentCall). HoldsForeign l d.held.items c.settle_held-answers.new.core) (sym (ap (λ (z : Link). z.calls.sent.items) c.has_read-has_failed.ensures.rest)) (c.settle_held-answers.ensures.foreign c.in-Foreign.is) in
+    subst (λ (l : List SentCall). HoldsForeign l d.held.items c.settle_held-answers.new.core) (sym (ap (λ (z : Link). z.calls.sent.items) c.has_read-has_failed.ensures.rest)) (c.settle_held-answers.ensures.foreign c.in-NoAnswer.is) in
     record {
-      goes = λ at h. line_foreign y d (ap (λ (z : Link). z.conn) c.has_read-has_failed.ensures.rest) (ap (λ (z : Link). z.awaits_dialect) c.has_read-has_failed.ensures.rest ∙ c.requires.told) (ap (λ (z : Link). z.late.items) c.has_read-has_failed.ensures.rest ∙ c.requires.alone) holds (settled x c.has_read-has_failed.new.self k d c.settle_held-answers.new.calls.sent.items (sym c.in-Some.ensures.value) c.requires.told c.requires.alone (ap (λ (z : Link). z.conn) c.has_read-has_failed.ensures.rest) (ap server_and_opened c.has_read-has_failed.ensures.rest) (ap (λ (z : Link). z.waiting.items) c.has_read-has_failed.ensures.rest) (ap (λ (z : Link). z.awaits_dialect) c.has_read-has_failed.ensures.rest) (ap (λ (z : Link). z.dialect) c.has_read-has_failed.ensures.rest) (ap (λ (z : Link). z.late.items) c.has_read-has_failed.ensures.rest) (ap (λ (z : Link). z.calls.sent.items) c.has_read-has_failed.ensures.rest) c.settle_held-answers.ensures.rest (c.settle_held-answers.ensures.settled (λ lost. absurd (foreign_lost (sym c.in-Foreign.is ∙ lost)))));
+      goes = λ at h. line_foreign y d (ap (λ (z : Link). z.conn) c.has_read-has_failed.ensures.rest) (ap (λ (z : Link). z.awaits_dialect) c.has_read-has_failed.ensures.rest ∙ c.requires.told) (ap (λ (z : Link). z.late.items) c.has_read-has_failed.ensures.rest ∙ c.requires.alone) holds (settled x c.has_read-has_failed.new.self k d c.settle_held-answers.new.calls.sent.items (sym c.in-Some.ensures.value) c.requires.told c.requires.alone (ap (λ (z : Link). z.conn) c.has_read-has_failed.ensures.rest) (ap server_and_opened c.has_read-has_failed.ensures.rest) (ap (λ (z : Link). z.waiting.items) c.has_read-has_failed.ensures.rest) (ap (λ (z : Link). z.awaits_dialect) c.has_read-has_failed.ensures.rest) (ap (λ (z : Link). z.dialect) c.has_read-has_failed.ensures.rest) (ap (λ (z : Link). z.late.items) c.has_read-has_failed.ensures.rest) (ap (λ (z : Link). z.calls.sent.items) c.has_read-has_failed.ensures.rest) c.settle_held-answers.ensures.rest (c.settle_held-answers.ensures.settled (λ lost. absurd (foreign_lost (sym c.in-NoAnswer.is ∙ lost)))));
       ends = c.settle_held-answers.ensures.ends;
     }

@@ -28,10 +28,10 @@ returns-in-Begun c = record {
   ends = λ j. refl;
 }
 
-pub returns-in-Foreign : goal.returns-in-Foreign
-returns-in-Foreign c = record {
+pub returns-in-NoAnswer : goal.returns-in-NoAnswer
+returns-in-NoAnswer c = record {
   goes = λ at h.
-      foreign_goes (c.throw_late.ensures.foreign (c.in-Some.is ∙ ap (λ (l : Left). Some l) c.in-Foreign.is))
+      foreign_goes (c.throw_late.ensures.foreign (c.in-Some.is ∙ ap (λ (l : Left). Some l) c.in-NoAnswer.is))
       (line_then (line_learns c.args.link.now c.learn.new.self c.learn.result c.learn.ensures.learns) (c.throw_late.ensures.goes at c.args.core.now h));
   ends = λ j. refl;
 }

@@ -8,7 +8,7 @@ use Rattle.serve_links.proofs.LinkGoes.{quiet, line_keeps, line_then}
 use Rattle.serve_links.proofs.LateGoes.{line_still}
 use Rattle.serve_links.proofs.link.Link.throw_late.Goals as goal
 
-as_foreign : (read : Result ℕ Left) (left : Left) → read ≡ Err left → Some left ≡ Some lefts.Foreign → read ≡ Err lefts.Foreign
+as_foreign : (read : Result ℕ Left) (left : Left) → read ≡ Err left → Some left ≡ Some lefts.NoAnswer → read ≡ Err lefts.NoAnswer
 as_foreign read left is same = cc
 
 pub loop-init : goal.loop-init
