@@ -1,13 +1,20 @@
 //! Ends on 127.0.0.1 that are turned by turns: cache servers, proxies, the program's loop, and the clients' ends of connections.
 
+use crate::heard::{Heard, is_whole};
+use crate::rerun_wire::RerunWire;
 use crate::wires::proxies::looked_up;
-use crate::wires::served::ServeLoop;
+use crate::wires::scripts::bytes_of;
+use crate::wires::served::{Askers, ServeLoop};
 use cache_tcp::CacheEnd;
 use examples_tables::configs::with_configs;
 use examples_tables::playing::{
     Stage, cut, first_line, numbered, plain, play_lines, shown, yes_or_no,
 };
+use examples_tables::tellers::written_out;
 use gate_check::{Accepted, judge};
+use mcgate_serve::controlling::Controlling;
+use mcgate_serve::listens::Listens;
+use mcgate_serve::watching::Watching;
 use route_json::addresses::Servers;
 use route_json::addresses::servers::MAX_SERVERS;
 use route_json::{Config, read_config, read_config_after};
@@ -18,16 +25,36 @@ use serve_wire::sockets::Sockets;
 use std::alloc::{AllocError, Global};
 use std::io::{ErrorKind, Read, Write};
 use std::net::{IpAddr, Ipv4Addr, Shutdown, SocketAddr, TcpListener, TcpStream};
+use std::os::fd::OwnedFd;
+use std::os::unix::net::UnixStream;
 use std::test::Fail;
 use std::time::{Duration, Instant};
-use std::{io, thread};
+use std::{fs, io, thread};
 
 type Cache = CacheEnd<Sockets>;
 
 type Proxy = ProxyEnd<Sockets>;
 
-/// The file whose texts the program's loop serves, in the folder in which the tests run.
-pub const SERVED: &str = "sockets.json";
+/// The files of a program's loop, in the folder in which the tests run.
+#[derive(Clone, Copy)]
+pub struct LoopFiles {
+    /// Whose texts it serves.
+    pub served: &'static str,
+    /// Where its control socket stands.
+    pub control: &'static str,
+    /// Where that socket is moved to once it has begun, as each run of the loop ends by removing what stands at `control`.
+    pub told: &'static str,
+}
+
+/// The files of a loop that nobody asks.
+pub const SOCKETS: LoopFiles = LoopFiles {
+    served: "sockets.json",
+    control: "sockets.control",
+    told: "sockets.told",
+};
+
+// What is to end does within so many turns.
+const MOST_TURNS: u32 = 4_000;
 
 /// The ends. One that is gone is none any more.
 #[derive(Drop)]
@@ -43,7 +70,13 @@ pub struct TurnedEnds<'a> {
     // A proxy that isn't turned any more. Its connections stand.
     ended: Option<Proxy>,
     // The program's loop, to which clients connect once it has begun.
-    served: ServeLoop<'a, Sockets>,
+    served: ServeLoop<'a, RerunWire<Sockets>>,
+    files: LoopFiles,
+    // Where a loop that is asked for numbers listened for clients when it began, and where it listens for who asks.
+    entered: Option<SocketAddr>,
+    visited: Option<SocketAddr>,
+    // What it answered.
+    heard: Heard,
     // The text of the configuration by which the last proxy began.
     config: String,
     // When news were asked for last.
@@ -80,7 +113,7 @@ fn read(alloc: Global, text: &str) -> Result<Config, Fail> {
     Ok(read_config(alloc, text)?)
 }
 
-// The same, over the servers of another one.
+// The configuration that a text has, its servers numbered on from those of another one.
 fn read_after(alloc: Global, first: &Config, text: &str) -> Result<Config, Fail> {
     let servers = first.servers().copy(alloc)?;
     Ok(read_config_after(alloc, servers, text)?)
@@ -246,6 +279,20 @@ fn times(alloc: Global, count: usize, text: &str) -> Result<String, AllocError> 
     Ok(all)
 }
 
+// Bytes as a text.
+fn text_in(alloc: Global, bytes: &[u8]) -> Result<String, Fail> {
+    let text = std::str::from_utf8(bytes)?;
+    Ok(text.to_string(alloc)?)
+}
+
+// Whether who would connect there is refused.
+fn is_refused_at(rt: &HostRuntime, address: SocketAddr) -> bool {
+    match TcpStream::connect(rt, address) {
+        Ok(_stream) => false,
+        Err(error) => error.kind() == ErrorKind::ConnectionRefused,
+    }
+}
+
 // How many bytes these are, and the last ten.
 fn counted(alloc: Global, bytes: &[u8]) -> Result<String, Fail> {
     let (_, last) = bytes.split_at(bytes.len().saturating_sub(10));
@@ -255,8 +302,8 @@ fn counted(alloc: Global, bytes: &[u8]) -> Result<String, Fail> {
 }
 
 impl<'a> TurnedEnds<'a> {
-    /// No end.
-    pub fn new(rt: &'a HostRuntime) -> TurnedEnds<'a> {
+    /// No end. A loop has these files.
+    pub fn new(rt: &'a HostRuntime, files: LoopFiles) -> TurnedEnds<'a> {
         TurnedEnds {
             rt,
             caches: Vec::new(rt.alloc()),
@@ -264,7 +311,11 @@ impl<'a> TurnedEnds<'a> {
             gone: None,
             proxies: Vec::new(rt.alloc()),
             ended: None,
-            served: ServeLoop::new(rt, SERVED, 1),
+            served: ServeLoop::new(rt, files.served, 1),
+            files,
+            entered: None,
+            visited: None,
+            heard: Heard::new(rt.alloc()),
             config: String::new(rt.alloc()),
             asked: None,
             played: None,
@@ -293,7 +344,7 @@ impl<'a> TurnedEnds<'a> {
     // Where clients connect: to the program's loop or the last proxy, or to the first cache where there is none.
     fn front(&self) -> Result<SocketAddr, Fail> {
         if let Some(wire) = self.served.wire() {
-            return Ok(wire.local_addr()?);
+            return Ok(wire.listens_at()?);
         }
         if let Some(proxy) = self.proxies.last() {
             return Ok(proxy.wire().local_addr()?);
@@ -451,19 +502,60 @@ impl<'a> TurnedEnds<'a> {
         self.served.set("file", text.as_str())
     }
 
-    // The program's loop begins by the text that the file has. Servers that a reload brings are empty.
-    fn begin_loop(&mut self) -> Result<(), Fail> {
+    // The program's loop begins by the text that the file has, and listens for these. Servers that a reload brings are empty.
+    fn begin_loop(&mut self, askers: Askers) -> Result<(), Fail> {
         self.served.set("new", "empty")?;
         let text = self.served.text()?;
         let wire = Sockets::listen(self.rt, any_port())?;
-        let wire = looked_up(self.rt, wire, text.as_str())?;
-        self.served.begin(wire, text)
+        let wire = looked_up(self.rt, RerunWire::new(wire), text.as_str())?;
+        self.served.begin(wire, text, askers)
+    }
+
+    // The program's loop begins, which is asked for numbers and told things.
+    fn begin_watched_loop(&mut self) -> Result<(), Fail> {
+        let askers = self.askers()?;
+        self.begin_loop(askers)?;
+        self.entered = Some(self.front()?);
+        self.name_servers()
+    }
+
+    fn askers(&mut self) -> Result<Askers, Fail> {
+        let controlling = self.listen_for_words()?;
+        let watching = self.listen_for_visits()?;
+        Ok(Askers {
+            watching: Some(watching),
+            controlling: Some(controlling),
+        })
+    }
+
+    fn listen_for_visits(&mut self) -> Result<Watching, Fail> {
+        let watching = Watching::listen(self.rt, "127.0.0.1:0")?;
+        self.visited = Some(watching.local_addr()?);
+        Ok(watching)
+    }
+
+    fn listen_for_words(&self) -> Result<Controlling, Fail> {
+        let controlling = Controlling::listen(self.rt, self.files.control)?;
+        fs::rename(self.rt, self.files.control, self.files.told)?;
+        Ok(controlling)
+    }
+
+    // In answers the names of the first two caches are those that texts have for them.
+    fn name_servers(&mut self) -> Result<(), Fail> {
+        let first = self.text_of(0)?;
+        let second = self.text_of(1)?;
+        self.heard.name(first, second);
+        Ok(())
     }
 
     // Its number. What is sent by it comes in the pieces in which it was sent.
     fn keep(&mut self, stream: TcpStream) -> Result<usize, Fail> {
-        stream.set_nonblocking(true)?;
         stream.set_nodelay(true)?;
+        self.keep_any(stream)
+    }
+
+    fn keep_any(&mut self, stream: TcpStream) -> Result<usize, Fail> {
+        stream.set_nonblocking(true)?;
         if self.streams.push(Some(stream)).is_err() {
             return Err("no memory")?;
         }
@@ -532,7 +624,7 @@ impl<'a> TurnedEnds<'a> {
         self.write(at, all.as_bytes())
     }
 
-    // The same in pieces that end anywhere, with a turn after each.
+    // A client sends a text so many times over in pieces that end anywhere, with a turn after each.
     fn send_in_pieces(&mut self, at: usize, text: &str) -> Result<(), Fail> {
         let (count, text) = numbered(text)?;
         let text = plain(self.rt.alloc(), text)?;
@@ -673,6 +765,134 @@ impl<'a> TurnedEnds<'a> {
         }
     }
 
+    // Who asks the loop for numbers.
+    fn visit(&mut self) -> Result<usize, Fail> {
+        match self.visited {
+            Some(address) => self.connect_to(address),
+            None => Err("nobody is told numbers")?,
+        }
+    }
+
+    // Who tells the loop things.
+    fn call(&mut self) -> Result<usize, Fail> {
+        let stream = UnixStream::connect(self.rt, self.files.told)?;
+        self.keep_any(TcpStream::from(OwnedFd::from(stream)))
+    }
+
+    // Pieces between which a stroke stands, with turns after each.
+    fn send_each(&mut self, at: usize, text: &str) -> Result<(), Fail> {
+        for piece in text.split('|') {
+            let bytes = bytes_of(self.rt.alloc(), piece)?;
+            self.write(at, bytes.as_slice())?;
+            self.turn_often(2)?;
+        }
+        Ok(())
+    }
+
+    // Takes what comes by a stream in turns. Whether it ends.
+    fn takes_all(&mut self, at: usize, given: &mut Vec<u8>) -> io::Result<bool> {
+        for _ in 0..MOST_TURNS {
+            if !self.read(at, given)? {
+                return Ok(true);
+            }
+            self.turn()?;
+        }
+        Ok(false)
+    }
+
+    // What comes by a stream until it ends.
+    fn given_to_end(&mut self, at: usize) -> Result<Vec<u8>, Fail> {
+        let mut given = Vec::new(self.rt.alloc());
+        if self.takes_all(at, &mut given)? {
+            return Ok(given);
+        }
+        Err("the stream doesn't end")?
+    }
+
+    // The answer that comes by the last stream, of this number, which is free again.
+    fn answer_by(&mut self, at: usize) -> Result<String, Fail> {
+        let given = self.given_to_end(at)?;
+        let _ = self.streams.pop();
+        text_in(self.rt.alloc(), given.as_slice())
+    }
+
+    // An answer over HTTP, as long as its head says.
+    fn whole_answer_by(&mut self, at: usize) -> Result<String, Fail> {
+        let answer = self.answer_by(at)?;
+        if is_whole(answer.as_str()) {
+            return Ok(answer);
+        }
+        Err("the answer isn't as long as it says")?
+    }
+
+    // The answer is kept: its first line.
+    fn note_answer(&mut self, answer: &str) -> Result<String, Fail> {
+        let alloc = self.rt.alloc();
+        self.heard.note(alloc, answer)?;
+        Ok(self.heard.first_line().to_string(alloc)?)
+    }
+
+    // A request over HTTP, and the first line of its answer.
+    fn request(&mut self, text: &str) -> Result<String, Fail> {
+        let at = self.visit()?;
+        self.send_each(at, text)?;
+        let answer = self.whole_answer_by(at)?;
+        self.note_answer(answer.as_str())
+    }
+
+    fn say(&mut self, at: usize, word: &str) -> Result<(), Fail> {
+        let line = format!(in self.rt.alloc(); "{word}\n")?;
+        self.write(at, line.as_bytes())
+    }
+
+    // The answer to a word: the status that it begins with.
+    fn status_by(&mut self, at: usize) -> Result<String, Fail> {
+        let answer = self.answer_by(at)?;
+        self.note_answer(answer.as_str())
+    }
+
+    // The loop is told this word: the status that it answers.
+    fn tell(&mut self, word: &str) -> Result<String, Fail> {
+        let at = self.call()?;
+        let word = written_out(self.rt.alloc(), word)?;
+        self.say(at, word.as_str())?;
+        self.status_by(at)
+    }
+
+    fn waits(&self) -> u32 {
+        match self.served.wire() {
+            Some(wire) => wire.waits(),
+            None => 0,
+        }
+    }
+
+    // The loop runs until it ends: its exit status.
+    fn run_to_end(&mut self) -> Result<u8, Fail> {
+        let before = self.waits();
+        let status = self.served.serve_to_end(MOST_TURNS)?;
+        if self.waits().saturating_sub(before) >= MOST_TURNS {
+            return Err("the loop doesn't end")?;
+        }
+        Ok(status)
+    }
+
+    // The loop is told to drain, and runs until it has: its exit status, and the one that it answers.
+    fn drain(&mut self) -> Result<String, Fail> {
+        let at = self.call()?;
+        self.say(at, "drain")?;
+        let status = self.run_to_end()?;
+        let answered = self.status_by(at)?;
+        Ok(format!(in self.rt.alloc(); "ended with {status}, answered {answered}")?)
+    }
+
+    // Whether who would connect where the loop listened is refused.
+    fn is_refused(&self) -> Result<bool, Fail> {
+        match self.entered {
+            Some(address) => Ok(is_refused_at(self.rt, address)),
+            None => Err("no such loop has begun")?,
+        }
+    }
+
     fn next_config(&self, text: &str) -> Result<Config, Fail> {
         let first = read(self.rt.alloc(), self.config.as_str())?;
         read_after(self.rt.alloc(), &first, text)
@@ -772,7 +992,8 @@ impl TurnedEnds<'_> {
             "hasty-proxy" => self.begin_proxy(text, hasty()),
             "versioned-proxy" => self.begin_proxy(text, versioned()),
             "file" => self.put_text(text),
-            "loop" => self.begin_loop(),
+            "loop" => self.begin_loop(Askers::none()),
+            "watched-loop" => self.begin_watched_loop(),
             _ => Err("no such event")?,
         }
     }
@@ -819,6 +1040,20 @@ impl TurnedEnds<'_> {
                 self.set(verb, at, text)?;
                 Ok(String::new(self.rt.alloc()))
             }
+        }
+    }
+
+    // Events of who asks a loop.
+    fn heard_of(&mut self, verb: &str, text: &str) -> Result<String, Fail> {
+        let alloc = self.rt.alloc();
+        match verb {
+            "metrics" => self.request(text),
+            "tell" => self.tell(text),
+            "line" => Ok(self.heard.line(alloc, text)?),
+            "json" => self.heard.count(alloc, text),
+            "fallen" => self.heard.fallen(alloc),
+            "drain" => self.drain(),
+            _ => Ok(yes_or_no(self.is_refused()?).to_string(alloc)?),
         }
     }
 
@@ -903,7 +1138,8 @@ impl Stage for TurnedEnds<'_> {
             | "hasty-proxy"
             | "versioned-proxy"
             | "file"
-            | "loop" => {
+            | "loop"
+            | "watched-loop" => {
                 self.set_server(verb, text)?;
                 Ok(String::new(self.rt.alloc()))
             }
@@ -914,23 +1150,31 @@ impl Stage for TurnedEnds<'_> {
                 Ok(String::new(self.rt.alloc()))
             }
             "news" => self.news_text(),
+            "metrics" | "tell" | "line" | "json" | "fallen" | "drain" | "refused" => {
+                self.heard_of(verb, text)
+            }
             _ => self.answer_of(verb, text, want),
         }
     }
 }
 
-/// Plays an example: its name, and its events.
-pub fn play(rt: &HostRuntime, example: &str) -> Result<(), Fail> {
+// Plays an example: its name, and its events.
+fn play(rt: &HostRuntime, files: LoopFiles, example: &str) -> Result<(), Fail> {
     let (name, lines) = first_line(example);
     let lines = with_configs(rt.alloc(), lines)?;
-    let mut ends = TurnedEnds::new(rt);
+    let mut ends = TurnedEnds::new(rt, files);
     play_lines(&mut ends, name, lines.as_str())
 }
 
-/// Plays the examples of a text, between which a line is empty.
-pub fn play_all(rt: &HostRuntime, text: &str) -> Result<(), Fail> {
+/// Plays the examples of a text, between which a line is empty, by loops of these files.
+pub fn play_loops(rt: &HostRuntime, files: LoopFiles, text: &str) -> Result<(), Fail> {
     for example in text.split("\n\n") {
-        play(rt, example)?;
+        play(rt, files, example)?;
     }
     Ok(())
+}
+
+/// Plays the examples of a text.
+pub fn play_all(rt: &HostRuntime, text: &str) -> Result<(), Fail> {
+    play_loops(rt, SOCKETS, text)
 }

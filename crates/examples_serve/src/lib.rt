@@ -12,11 +12,17 @@ mod events;
 #[cfg(test)]
 mod fleets;
 #[cfg(test)]
+mod heard;
+#[cfg(test)]
 mod link_news;
 #[cfg(test)]
 mod loops;
 #[cfg(test)]
 mod proxies;
 #[cfg(test)]
+mod rerun_wire;
+#[cfg(test)]
 mod scripts;
+#[cfg(test)]
+mod watched;
 mod wires;

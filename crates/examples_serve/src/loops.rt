@@ -1,6 +1,6 @@
 //! The loop of `mcgate serve` over real sockets: cache servers, a client, and texts of its file.
 
-use crate::ends::{SERVED, play_all};
+use crate::ends::{SOCKETS, play_all};
 use crate::wires::served::remove;
 use std::test::Fail;
 
@@ -35,5 +35,5 @@ ask 1 get a b\r\n => VALUE b 0 1\r\n2\r\nEND\r\n"#
 #[test]
 fn loops_over_sockets(rt: HostRuntime) -> Result<(), Fail> {
     play_all(&rt, texts())?;
-    remove(&rt, SERVED)
+    remove(&rt, SOCKETS.served)
 }

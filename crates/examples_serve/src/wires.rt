@@ -7,7 +7,7 @@ mod peers;
 #[cfg(test)]
 pub mod proxies;
 #[cfg(test)]
-mod scripts;
+pub mod scripts;
 #[cfg(test)]
 pub mod served;
 #[cfg(test)]

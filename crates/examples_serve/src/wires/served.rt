@@ -9,12 +9,14 @@ use examples_tables::playing::{Stage, cut, first_line, play_lines, shown, yes_or
 use mcgate_args::details::Details;
 use mcgate_args::log_arguments::{Level, Log};
 use mcgate_args::serve_arguments::ServeJob;
+use mcgate_serve::controlling::Controlling;
 use mcgate_serve::lines::Lines;
 use mcgate_serve::listens::Listens;
 use mcgate_serve::seen::Seen;
 use mcgate_serve::serving::Serving;
 use mcgate_serve::started::{Begun, Started};
 use mcgate_serve::starting::begin;
+use mcgate_serve::watching::Watching;
 use route_json::addresses::Servers;
 use serve_proxy::{Beginning, Beginnings, ProxyEnd, ServerDialect, Settings};
 use serve_wire::memory::Memory;
@@ -364,6 +366,23 @@ pub fn remove(rt: &HostRuntime, file: &str) -> Result<(), Fail> {
     }
 }
 
+/// Who asks a loop for numbers, and who tells it things, where it listens for them.
+#[derive(Drop)]
+pub struct Askers {
+    pub watching: Option<Watching>,
+    pub controlling: Option<Controlling>,
+}
+
+impl Askers {
+    /// It listens for none of them.
+    pub fn none() -> Askers {
+        Askers {
+            watching: None,
+            controlling: None,
+        }
+    }
+}
+
 /// The program's loop, and how it is told to run.
 #[derive(Drop)]
 pub struct ServeLoop<'a, W: Wire> {
@@ -394,10 +413,25 @@ fn serving_of<W: Wire + Drop>(
     end: ProxyEnd<W>,
     servers: Servers,
     started: Started,
+    askers: Askers,
 ) -> Result<Serving<W>, Fail> {
     let lines = Lines::new(rt.alloc(), Some(LOG));
     let seen = Seen::new(rt.alloc());
-    Ok(Serving::new(rt, end, servers, None, started, lines, seen, None, None)?)
+    let Askers {
+        watching,
+        controlling,
+    } = askers;
+    Ok(Serving::new(
+        rt,
+        end,
+        servers,
+        None,
+        started,
+        lines,
+        seen,
+        watching,
+        controlling,
+    )?)
 }
 
 fn serve_text<W: Wire + Drop>(
@@ -405,10 +439,11 @@ fn serve_text<W: Wire + Drop>(
     end: ProxyEnd<W>,
     job: &ServeJob<'_>,
     text: String,
+    askers: Askers,
 ) -> Result<Serving<W>, Fail> {
     let servers = servers_of(rt.alloc(), text.as_str())?;
     let started = started_of(rt, job, text)?;
-    serving_of(rt, end, servers, started)
+    serving_of(rt, end, servers, started, askers)
 }
 
 fn begin_serving<W: Wire + Drop>(
@@ -416,9 +451,22 @@ fn begin_serving<W: Wire + Drop>(
     wire: W,
     job: &ServeJob<'_>,
     text: String,
+    askers: Askers,
 ) -> Result<Serving<W>, Fail> {
     let end = begin_end(rt, wire, text.as_str(), job.begun, job.settings)?;
-    serve_text(rt, end, job, text)
+    serve_text(rt, end, job, text, askers)
+}
+
+// The exit status.
+fn status_of<W: Listens>(
+    rt: &HostRuntime,
+    serving: &mut Serving<W>,
+    job: &ServeJob<'_>,
+) -> io::Result<u8> {
+    match serving.tell_and_run(rt, job) {
+        Ok(status) => Ok(status),
+        Err(_) => Err(io::Error::other("it broke off")),
+    }
 }
 
 fn run<W: Listens>(
@@ -426,10 +474,8 @@ fn run<W: Listens>(
     serving: &mut Serving<W>,
     job: &ServeJob<'_>,
 ) -> io::Result<()> {
-    match serving.tell_and_run(rt, job) {
-        Ok(_) => Ok(()),
-        Err(_) => Err(io::Error::other("it broke off")),
-    }
+    status_of(rt, serving, job)?;
+    Ok(())
 }
 
 impl<'a, W: Listens + Drop> ServeLoop<'a, W> {
@@ -482,10 +528,10 @@ impl<'a, W: Listens + Drop> ServeLoop<'a, W> {
         Ok(fs::read_to_string(self.rt, self.file)?)
     }
 
-    /// It begins by this text, on a wire on which its servers were looked up.
-    pub fn begin(&mut self, wire: W, text: String) -> Result<(), Fail> {
+    /// It begins by this text, on a wire on which its servers were looked up, and listens for these.
+    pub fn begin(&mut self, wire: W, text: String, askers: Askers) -> Result<(), Fail> {
         let job = self.job(0);
-        self.serving = Some(begin_serving(self.rt, wire, &job, text)?);
+        self.serving = Some(begin_serving(self.rt, wire, &job, text, askers)?);
         Ok(())
     }
 
@@ -496,6 +542,16 @@ impl<'a, W: Listens + Drop> ServeLoop<'a, W> {
         match &mut self.serving {
             Some(serving) => run(rt, serving, &job),
             None => Ok(()),
+        }
+    }
+
+    /// Turns until it ends, so many at most: the exit status.
+    pub fn serve_to_end(&mut self, most: u32) -> Result<u8, Fail> {
+        let rt = self.rt;
+        let job = self.job(most);
+        match &mut self.serving {
+            Some(serving) => Ok(status_of(rt, serving, &job)?),
+            None => Err("nothing is served")?,
         }
     }
 
@@ -561,7 +617,7 @@ impl ScriptedLoop<'_> {
         }
         let text = self.served.text()?;
         let wire = self.take_wire(text.as_str())?;
-        self.served.begin(wire, text)
+        self.served.begin(wire, text, Askers::none())
     }
 
     fn serve(&mut self, turns: u32) -> Result<(), Fail> {
