@@ -24,7 +24,7 @@ use Rattle.serve_links.specs.Calls.{stores_first, SparesStores, as_late, IsFirst
 use Rattle.serve_links.specs.Lateness.{IsLate, HasLate, HasOneLate, awaits_store, LetsStoresWait}
 use Rattle.serve_links.specs.CoreSteps.{Step, Settled, Late, CameLate, IsOfTurn, IsSending}
 use Rattle.serve_links.specs.Dialects.{SpellsIn}
-use Rattle.serve_links.specs.Talks.{SaidAsk, Talk, HasWaited, behind, first_of_asks, turned_late, with_late, talk_in, IsNotAmong, AreDue, AreCalled, MaySettle, IsOrderly, IsFirstOut, IsNextLate}
+use Rattle.serve_links.specs.Talks.{SaidAsk, Talk, HasWaited, behind, first_of_asks, turned_late, with_late, talk_in, IsNotAmong, AreDue, AreCalled, MaySettle, WasLate, IsOrderly, IsFirstOut, IsNextLate}
 use Rattle.serve_links.specs.Story.{said_asks, said_late, MayAllGo, TalkAgrees, LineAgrees, LineGoes, address_and_opened, server_and_opened, LineState, line_of}
 use Rattle.serve_links.proofs.Talking.{calls_later}
 use Rattle.serve_links.proofs.Due.{due_stays, called_stays, keeps_settled, SentGone, sent_gone, own_nowhere}
@@ -174,7 +174,7 @@ turns {at} {core} {core'} {h} x y c call rest was same draining place waiting aw
   kinds = (refl, (tt, tt));
   own = (tt, (refl, tt));
   walks = (core, (core, refl, refl), settled);
-  agrees = λ past o tells a. let late_now : IsOrderly (step ∷ past) = ((first past a, has_waited past a), o) in (((settles past a late_now, tt), late_now), agreed past a, all_kept (1, at) h h (quiet h), (others past a).others);
+  agrees = λ past o tells a. let late_now : IsOrderly (step ∷ past) = ((first past a, has_waited past a), o) in (((settles past a late_now, inr (inr (is_late past))), late_now), agreed past a, all_kept (1, at) h h (quiet h), (others past a).others);
   shown = λ past o tells a shown. (tt, ((h, none_since h, refl), shown));
   shut = shut_still (quiet h) (conns_same x y same draining);
   server = record { same = place_server x y place; late = (tt, (refl, tt)) };
@@ -206,6 +206,9 @@ turns {at} {core} {core'} {h} x y c call rest was same draining place waiting aw
           is_out = (called past a).0;
           nowhere = own_nowhere (step ∷ past) at call.ticket.number call.ticket.ask o (called past a).0 (subst (IsNotAmong call.ticket.number) (sym left) (called past a).2);
         }
+
+    is_late : (past : List Step) → WasLate call.ticket.number (step ∷ past)
+    is_late past = record { at = at; limit = x.limits.call_ms; now = time h; later = []; earlier = past; was = refl }
 
     others : (past : List Step) → LineAgrees at past h x → SentGone at past (steps ++ past) rest x.waiting.items
     others past a = sent_gone at past (steps ++ past) (call ∷ []) rest x.waiting.items (keeps_settled (step ∷ past) call.ticket.number Failed call.dialect call.ticket.ask call.since) (called past a) a.due

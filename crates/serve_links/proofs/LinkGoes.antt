@@ -27,11 +27,11 @@ use Rattle.serve_links.specs.Dialects.{asked_in, GreetsAwaited, awaits_flush}
 use Rattle.serve_links.specs.Lines.{first_asked_of, awaits_first, first_dialect, greeting_of, SameLine, KeepsLines, IsNewEnd, HasNewEnd, OpensLink, TakesGreeting, HasLearnt, Learns}
 use Rattle.serve_links.specs.Links.{FailsTo}
 use Rattle.serve_links.specs.Settled.{SettlesSome}
-use Rattle.serve_links.specs.Talks.{SaidAsk, Talk, Apart, Ending, standing_after, first_talk, with_ask, greeted, given_up, talk_in, AreDue, AreCalled, IsOrderly, IsOfServer}
+use Rattle.serve_links.specs.Talks.{SaidAsk, Talk, Apart, Ending, standing_after, first_talk, with_ask, greeted, given_up, talk_in, IsAmong, AreDue, AreCalled, AreGivenUp, IsOrderly, IsOfServer}
 use Rattle.serve_links.specs.Called.{TellsCallsOut}
 use Rattle.serve_links.proofs.Called.{walks_tell_calls}
-use Rattle.serve_links.specs.Story.{said_asks, said_late, MayGo, MayAllGo, TalkAgrees, Unused, ConnAgrees, LineAgrees, LineLost, LineFails, ShowsWhy, WasShown, StepsAreShown, LineCalled, address_and_opened, address_and_limits, server_and_opened, LineState, line_of, KeepsOthers, LeavesCalls, LineGoesFrom, LineGoes}
-use Rattle.serve_links.proofs.Talking.{calls_later, one_more, IsPlain, plain_talk, AreOut, sent_out, waiting_out, FailsInOrder, fail_in_order}
+use Rattle.serve_links.specs.Story.{said_asks, said_late, MayGo, MayAllGo, TalkAgrees, Unused, AllGivenUp, ConnAgrees, LineAgrees, LineLost, LineFails, ShowsWhy, WasShown, StepsAreShown, LineCalled, address_and_opened, address_and_limits, server_and_opened, LineState, line_of, KeepsOthers, LeavesCalls, LineGoesFrom, LineGoes}
+use Rattle.serve_links.proofs.Talking.{calls_later, one_more, IsPlain, plain_talk, AreOut, sent_out, waiting_out, all_given_later, given_parts, given_now, sent_fail, waiting_fail, FailsInOrder, fail_in_order}
 use Rattle.serve_links.proofs.Due.{due_stays, called_stays, leaves_twice, due_last, called_last, due_behind, due_taken, SentGone, sent_gone, waiting_gone, AskedOne, asked_one}
 use Rattle.serve_links.proofs.Walked.{walked, of_both}
 use Rattle.serve_links.proofs.ByLimits.{unlost_late, same_server, same_text, same_place, place_server, same_opening, server_then}
@@ -88,7 +88,7 @@ pub has_conn : (at : ℕ) (past : List Step) (h : List WireEvent) (y : Link) (d 
 has_conn at past h y d is agrees goes_on waiting due called = record { conn = λ conn there. subst (λ (z : Conn). ConnAgrees at past h y z z.held.items) (same_some (sym is ∙ there)) agrees; goes_on = λ conn there. subst (λ (z : Conn). is_over z.number h ≡ false) (same_some (sym is ∙ there)) goes_on; waiting = waiting; due = due; none_out = λ none. absurd (none_some (sym none ∙ is)); unused = λ none. absurd (none_some (sym none ∙ is)); called = called }
 
 -- and one that has none
-pub has_none : (at : ℕ) (past : List Step) (h : List WireEvent) (y : Link) → y.conn ≡ None → MayAllGo past at y.waiting.items → AreDue past at (said_asks y.waiting.items) → (talk_in past at).out ≡ [] → Unused h at y.text.items (talk_in past at) (drain_of y) → AreCalled past at (said_asks y.calls.sent.items) → LineAgrees at past h y
+pub has_none : (at : ℕ) (past : List Step) (h : List WireEvent) (y : Link) → y.conn ≡ None → MayAllGo past at y.waiting.items → AreDue past at (said_asks y.waiting.items) → AllGivenUp past at (said_asks y.calls.sent.items) → Unused h at y.text.items (talk_in past at) (drain_of y) → AreCalled past at (said_asks y.calls.sent.items) → LineAgrees at past h y
 has_none at past h y is waiting due out unused called = record { conn = λ conn there. absurd (none_some (sym is ∙ there)); goes_on = λ conn there. absurd (none_some (sym is ∙ there)); waiting = waiting; due = due; none_out = λ none. out; unused = λ none. unused; called = called }
 
 pub as_lost : (at : ℕ) (past : List Step) (h : List WireEvent) (x : Link) → LineAgrees at past h x → LineLost at past h x
@@ -154,7 +154,7 @@ line_then {P} {Q} {R} {Is} {at} {a} {b} {c} {h} {h'} {h''} {x} {y} {z} g k = rec
 -- ---- a link that has the same
 
 abbrev OfConn : ℕ → List Step → List WireEvent → List ℕ × ℕ → List SaidAsk → Option Greeting → Dialect → List SaidAsk → Option ℕ → Option (ℕ × List ℕ × List ℕ) → Type 0
-OfConn at past h begun out awaits dialect late drain None = ((talk_in past at).out ≡ []) × Unused h at begun.0 (talk_in past at) drain
+OfConn at past h begun out awaits dialect late drain None = AllGivenUp past at out × Unused h at begun.0 (talk_in past at) drain
 OfConn at past h begun out awaits dialect late drain (Some e) = TalkAgrees h at begun (talk_in past at) e.0 e.1 e.2 out awaits dialect late × (is_over e.0 h ≡ false)
 
 abbrev OfLine : ℕ → List Step → List WireEvent → LineState → Type 0
@@ -173,7 +173,7 @@ from_line at past h y o = record { conn = λ conn is. (there conn is).0; goes_on
     there : (conn : Conn) → y.conn ≡ Some conn → ConnAgrees at past h y conn conn.held.items × (is_over conn.number h ≡ false)
     there conn is = subst (λ (q : Option Conn). OfConn at past h (address_and_opened y) (said_asks y.calls.sent.items) y.awaits_dialect y.dialect (said_late y.late.items) (drain_of y) (option_map (λ (c : Conn). (c.number, c.held.items, bytes_of c.unsent)) q)) is o.0
 
-    there_none : y.conn ≡ None → ((talk_in past at).out ≡ []) × Unused h at y.text.items (talk_in past at) (drain_of y)
+    there_none : y.conn ≡ None → AllGivenUp past at (said_asks y.calls.sent.items) × Unused h at y.text.items (talk_in past at) (drain_of y)
     there_none none = subst (λ (q : Option Conn). OfConn at past h (address_and_opened y) (said_asks y.calls.sent.items) y.awaits_dialect y.dialect (said_late y.late.items) (drain_of y) (option_map (λ (c : Conn). (c.number, c.held.items, bytes_of c.unsent)) q)) none o.0
 
 pub same_line : (at : ℕ) (past : List Step) (h : List WireEvent) (x y : Link) → line_of y ≡ line_of x → LineAgrees at past h x → LineAgrees at past h y
@@ -523,7 +523,7 @@ waits_with at past h x y is a waiting due = record {
   goes_on = λ conn there. a.goes_on conn (sym (ap (λ (z : Link). z.conn) is) ∙ there);
   waiting = waiting;
   due = due;
-  none_out = λ none. a.none_out (sym (ap (λ (z : Link). z.conn) is) ∙ none);
+  none_out = λ none. subst (λ l. AllGivenUp past at l) (sym (ap (λ (z : Link). said_asks z.calls.sent.items) is)) (a.none_out (sym (ap (λ (z : Link). z.conn) is) ∙ none));
   unused = λ none. subst (λ (z : Link). Unused h at z.text.items (talk_in past at) (drain_of z)) (sym is) (a.unused (sym (ap (λ (z : Link). z.conn) is) ∙ none));
   called = subst (λ l. AreCalled past at l) (sym (ap (λ (z : Link). said_asks z.calls.sent.items) is)) a.called;
 }
@@ -637,7 +637,7 @@ gives_none {at} {core} {h} {h'} why x y had same closed draining server waiting 
 
     left : (past : List Step) → LineFails why at past h x → LineAgrees at past h' y
     left past a =
-        has_none at past h' y closed (subst (λ w. MayAllGo past at w) (sym waiting) a.lost.waiting) (subst (λ w. AreDue past at (said_asks w)) (sym waiting) a.lost.due) (a.lost.none_out had)
+        has_none at past h' y closed (subst (λ w. MayAllGo past at w) (sym waiting) a.lost.waiting) (subst (λ w. AreDue past at (said_asks w)) (sym waiting) a.lost.due) (subst (λ (l : List SentCall). AllGivenUp past at (said_asks l)) (sym sent) (a.lost.none_out had))
         (subst (λ k. Unused k at y.text.items (talk_in past at) (drain_of y)) (sym same) (subst (λ t. Unused h at t (talk_in past at) (drain_of y)) (sym (same_text x y server)) (subst (λ (o : Option Conn). Unused h at x.text.items (talk_in past at) (option_map (λ (z : Conn). z.number) o)) (sym draining) (a.lost.unused had))))
         (subst (λ (l : List SentCall). AreCalled past at (said_asks l)) (sym sent) a.lost.called)
 
@@ -663,8 +663,13 @@ gives_up {at} {core} {h} {h'} why x y c e only same_role closed server waiting s
     left : (past : List Step) → LineFails why at past h x → LineAgrees at (Lost at why x.limits.connect_ms ∷ past) h' y
     left past a =
         has_none at (Lost at why x.limits.connect_ms ∷ past) h' y closed (calls_later (Lost at why x.limits.connect_ms ∷ []) past at y.waiting.items (subst (λ w. MayAllGo past at w) (sym waiting) a.lost.waiting))
-        (due_stays past (Lost at why x.limits.connect_ms ∷ past) at (said_asks y.waiting.items) (λ n ask is. (refl, refl, refl)) (subst (λ w. AreDue past at (said_asks w)) (sym waiting) a.lost.due)) (ap (λ (t : Talk). t.out) (talk past)) (unused past a)
+        (due_stays past (Lost at why x.limits.connect_ms ∷ past) at (said_asks y.waiting.items) (λ n ask is. (refl, refl, refl)) (subst (λ w. AreDue past at (said_asks w)) (sym waiting) a.lost.due)) (ap (λ (t : Talk). t.out) (talk past), given past a) (unused past a)
         (called_stays past (Lost at why x.limits.connect_ms ∷ past) at (said_asks y.calls.sent.items) (λ n ask is. (refl, refl, refl)) (subst (λ (l : List SentCall). AreCalled past at (said_asks l)) (sym sent) a.lost.called))
+
+    given : (past : List Step) → LineFails why at past h x → AreGivenUp (Lost at why x.limits.connect_ms ∷ past) (said_asks y.calls.sent.items)
+    given past a =
+        given_now past at why x.limits.connect_ms (said_asks y.calls.sent.items)
+        (λ n among. subst (IsAmong n) (sym ((a.lost.conn c e).1.out_is ∙ ap said_asks (sym sent))) among)
 
     was_shown : (past : List Step) → LineFails why at past h x → WasShown why x.limits.connect_ms at past h'
     was_shown past a = let t = (a.lost.conn c e).1 in record {
@@ -761,7 +766,7 @@ line_away {at = at} {h = h} {h' = h'} x y c d bytes none was is number r =
     agrees : (past : List Step) → LineAgrees at past h x → LineAgrees at past h' y
     agrees past a =
         let waits = sym (ap (λ (z : Link). z.waiting.items) is) in
-        has_none at past h' y (ap (λ (z : Link). z.conn) is ∙ none) (subst (λ w. MayAllGo past at w) waits a.waiting) (subst (λ w. AreDue past at (said_asks w)) waits a.due) (a.none_out none)
+        has_none at past h' y (ap (λ (z : Link). z.conn) is ∙ none) (subst (λ w. MayAllGo past at w) waits a.waiting) (subst (λ w. AreDue past at (said_asks w)) waits a.due) (subst (λ l. AllGivenUp past at l) (sym (ap (λ (z : Link). said_asks z.calls.sent.items) is)) (a.none_out none))
         (subst (Unused h' at y.text.items (talk_in past at)) (sym drains) (subst (λ w. Unused h' at w (talk_in past at) (Some c.number)) (sym (ap (λ (z : Link). z.text.items) is)) (now past a)))
         (subst (λ l. AreCalled past at l) (sym (ap (λ (z : Link). said_asks z.calls.sent.items) is)) a.called)
 
@@ -794,7 +799,8 @@ line_ends {Is} {at} {core} {h} {k} {h'} why kind apart x y c none was is r shows
         has_none at (Lost at why x.limits.connect_ms ∷ past) h' y (ap (λ (z : Link). z.conn) is ∙ none)
         (calls_later (Lost at why x.limits.connect_ms ∷ []) past at y.waiting.items (subst (λ w. MayAllGo past at w) (sym (ap (λ (z : Link). z.waiting.items) is)) a.waiting))
         (due_stays past (Lost at why x.limits.connect_ms ∷ past) at (said_asks y.waiting.items) (λ n ask is. (refl, refl, refl)) (subst (λ w. AreDue past at (said_asks w)) (sym (ap (λ (z : Link). z.waiting.items) is)) a.due))
-        (ap (λ (t : Talk). t.out) (talk past))
+        (ap (λ (t : Talk). t.out) (talk past),
+        subst (AreGivenUp (Lost at why x.limits.connect_ms ∷ past)) (sym (ap (λ (z : Link). said_asks z.calls.sent.items) is)) (all_given_later (Lost at why x.limits.connect_ms ∷ []) past (said_asks x.calls.sent.items) (a.none_out none).1))
         (subst (Unused h' at y.text.items (talk_in (Lost at why x.limits.connect_ms ∷ past) at)) (sym (ap drain_of is)) (ap (λ (t : Talk). t.stands) (talk past) ∙ apart))
         (called_stays past (Lost at why x.limits.connect_ms ∷ past) at (said_asks y.calls.sent.items) (λ n ask is. (refl, refl, refl)) (subst (λ l. AreCalled past at l) (sym (ap (λ (z : Link). said_asks z.calls.sent.items) is)) a.called))
 
@@ -831,7 +837,7 @@ line_shuts {at = at} {h' = h'} {x = x} {y = y} {z = z} g none closed draining se
   walks = g.walks;
   agrees = λ past o tells was. let r = g.agrees past o tells was in (
     r.0,
-    has_none at (g.steps ++ past) h' z closed (subst (λ w. MayAllGo (g.steps ++ past) at w) (sym waiting) r.1.waiting) (subst (λ w. AreDue (g.steps ++ past) at (said_asks w)) (sym waiting) r.1.due) (r.1.none_out none)
+    has_none at (g.steps ++ past) h' z closed (subst (λ w. MayAllGo (g.steps ++ past) at w) (sym waiting) r.1.waiting) (subst (λ w. AreDue (g.steps ++ past) at (said_asks w)) (sym waiting) r.1.due) (subst (λ (l : List SentCall). AllGivenUp (g.steps ++ past) at (said_asks l)) (sym sent) (r.1.none_out none))
         (subst (λ t. Unused h' at t (talk_in (g.steps ++ past) at) (drain_of z)) (sym (same_text y z server)) (subst (λ (o : Option Conn). Unused h' at y.text.items (talk_in (g.steps ++ past) at) (option_map (λ (c : Conn). c.number) o)) (sym draining) (r.1.unused none)))
         (subst (λ (l : List SentCall). AreCalled (g.steps ++ past) at (said_asks l)) (sym sent) r.1.called),
     r.2,
@@ -905,11 +911,11 @@ line_fails {why} {at} {core} {core'} {h} x y mid sent waiting had none draining 
   walks = walked w.steps f.steps core mid core' f.walks w.walks;
   agrees = λ past o tells a. (
     subst IsOrderly (sym (append_assoc w.steps f.steps past))
-        (w.orderly (f.steps ++ past) (waiting_out (f.steps ++ past) at waiting.0 y.waiting.items (after_sent past a).due) (ap (λ (t : Talk). t.out) (plain_talk f.steps (failed_own at f.steps f.kinds).1 past at) ∙ a.none_out had)
-        (f.orderly past (sent_out past at sent.0 y.calls.sent.items (called past a)) (a.none_out had) o)),
+        (w.orderly (f.steps ++ past) (waiting_out (f.steps ++ past) at waiting.0 y.waiting.items (after_sent past a).due) (waiting_fail (f.steps ++ past) at waiting.0 y.waiting.items (after_sent past a).due) (ap (λ (t : Talk). t.out) (plain_talk f.steps (failed_own at f.steps f.kinds).1 past at) ∙ (a.none_out had).0)
+        (f.orderly past (sent_out past at sent.0 y.calls.sent.items (called past a)) (sent_fail past (said_asks sent.0) (given past a).0) (a.none_out had).0 o)),
     has_none at ((w.steps ++ f.steps) ++ past) h y none (calls_later (w.steps ++ f.steps) past at y.waiting.items (last_called past at waiting.0 y.waiting.items (subst (λ l. MayAllGo past at l) waiting.1 a.waiting)))
         (left past a).due
-        (ap (λ (t : Talk). t.out) (plain_talk (w.steps ++ f.steps) own.1 past at) ∙ a.none_out had)
+        (ap (λ (t : Talk). t.out) (plain_talk (w.steps ++ f.steps) own.1 past at) ∙ (a.none_out had).0, all_given_later (w.steps ++ f.steps) past (said_asks y.calls.sent.items) (given past a).1)
         (subst (λ t. Unused h at t (talk_in ((w.steps ++ f.steps) ++ past) at) (drain_of y)) (sym (same_text x y server))
         (subst (λ (o : Option Conn). Unused h at x.text.items (talk_in ((w.steps ++ f.steps) ++ past) at) (option_map (λ (z : Conn). z.number) o)) (sym draining)
         (subst (λ u. Unused h at x.text.items u (drain_of x)) (sym (plain_talk (w.steps ++ f.steps) own.1 past at)) (a.unused had))))
@@ -936,6 +942,9 @@ line_fails {why} {at} {core} {core'} {h} x y mid sent waiting had none draining 
 
     called : (past : List Step) → LineAgrees at past h x → AreCalled past at (said_asks (sent.0 ++ y.calls.sent.items))
     called past a = subst (λ (l : List SentCall). AreCalled past at (said_asks l)) sent.1 a.called
+
+    given : (past : List Step) → LineAgrees at past h x → AreGivenUp past (said_asks sent.0) × AreGivenUp past (said_asks y.calls.sent.items)
+    given past a = given_parts past sent.0 y.calls.sent.items (subst (λ (l : List SentCall). AreGivenUp past (said_asks l)) sent.1 (a.none_out had).1)
 
     -- once those that were sent have failed, and then those that wait
     after_sent : (past : List Step) → LineAgrees at past h x → SentGone at past (f.steps ++ past) y.calls.sent.items (waiting.0 ++ y.waiting.items)

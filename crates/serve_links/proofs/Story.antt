@@ -23,7 +23,7 @@ use Rattle.serve_links.specs.Talks.{SaidAsk, Talk, Apart, talk_in, AreDue, AreCa
 use Rattle.serve_links.specs.Story.{address_and_opened, fed_in, gave_in, is_open_in, is_broken_in, ClientAgreesWith, ClientIsTold, ClientsAreTold, TellsNone, TookAll, ClientEndsBy, IsGone, HasOrHad, TalkAgrees, Unused, said_asks, StayOut, LineAgrees, LinesAgree, servers_of, OneGoes, LineGoesFrom, LineGoes, AnEnd, Agrees, AgreesBut, AgreesCalled, AllGoFrom, AllGo, StoriesGoOn}
 use Rattle.serve_links.specs.Called.{TellsCallsOut, GiveOnce}
 use Rattle.serve_links.proofs.Called.{walks_tell_calls}
-use Rattle.serve_links.proofs.Talking.{calls_later, IsPlain, clients_plain, plain_talk, clients_orderly, clients_clock, server_tells_none, server_clock, sending_clock, sending_given, talk_elsewhere}
+use Rattle.serve_links.proofs.Talking.{calls_later, all_given_later, IsPlain, clients_plain, plain_talk, clients_orderly, clients_clock, server_tells_none, server_clock, sending_clock, sending_given, talk_elsewhere}
 use Rattle.serve_links.proofs.Due.{due_stays, called_stays, clients_stay}
 use Rattle.serve_links.proofs.Showing.{plain_unlost, shown_later}
 use Rattle.serve_links.proofs.ByLimits.{servers_same, servers_then, clients_servers, line_servers}
@@ -110,7 +110,7 @@ line_stays_by h h' at steps past link same told due called was = record {
   goes_on = λ conn is. (same conn.number (was.conn conn is).is_to).same_over ∙ was.goes_on conn is;
   waiting = calls_later steps past at link.waiting.items was.waiting;
   due = due;
-  none_out = λ none. ap (λ (t : Talk). t.out) told ∙ was.none_out none;
+  none_out = λ none. (ap (λ (t : Talk). t.out) told ∙ (was.none_out none).0, all_given_later steps past (said_asks link.calls.sent.items) (was.none_out none).1);
   unused = λ none. unused_stays h h' at link.text.items (talk_in past at) (talk_in (steps ++ past) at) (drain_of link) same told (was.unused none);
   called = called;
 }

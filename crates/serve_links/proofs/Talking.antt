@@ -1,14 +1,15 @@
 -- What steps leave of what was told before them.
-use Rattle.std.proofs.Common.{◌≡◌, ℕ, false, if◌then◌else◌, List, [], ◌∷◌, ◌++◌, Some, inl, inr, refl, sym, ap, ◌∙◌, subst, append_assoc}
-use Rattle.std.specs.Prelude.{nat_eq}
+use Rattle.std.proofs.Common.{◌≡◌, ℕ, false, if◌then◌else◌, List, [], ◌∷◌, ◌++◌, Option, Some, inl, inr, refl, sym, ap, ◌∙◌, subst, append_assoc}
+use Rattle.std.specs.Prelude.{nat_eq, IsSome}
 use Rattle.mc_types.specs.declared.ask.Ask.{Ask}
 use Rattle.mc_types.specs.declared.call.Outcome.TheVariants.{Failed}
 use Rattle.core_proxy.specs.declared.note.Poll.TheVariants as polls
 use Rattle.serve_links.specs.declared.calls.calls.SentCall.{SentCall}
+use Rattle.serve_links.specs.declared.news.Cause.{Cause}
 use Rattle.serve_links.specs.CoreSteps.{Step, Opened, NotOpened, Fed, Polled, Stopped, Settled, Gave, Closed, LeftLine, Broke, Ticked, Loaded, Linked, Asked, Greeted, Spelled, Late, CameLate, Lost, StepsAreOf}
-use Rattle.serve_links.specs.Talks.{SaidAsk, first_talk, with_ask, greeted, with_first_answer, turned_late, with_late, given_up, talk_in, IsCalledIn, IsNotAmong, AreDue, AreCalled, MaySettle, MayComeNext, IsOrderly, IsOfClients, IsOfServer}
+use Rattle.serve_links.specs.Talks.{SaidAsk, first_talk, with_ask, greeted, with_first_answer, turned_late, with_late, given_up, talk_in, IsCalledIn, IsNotAmong, IsAmong, AreDue, AreCalled, AreGivenUp, WasGivenUp, WasLate, FailsFor, MaySettle, MayComeNext, IsOrderly, IsOfClients, IsOfServer}
 use Rattle.serve_links.specs.Story.{TellsNone, MayGo, MayAllGo, said_asks}
-use Rattle.serve_links.specs.Called.{call_in, clock_in, given_in, GivesOnce, GiveOnce}
+use Rattle.serve_links.specs.Called.{call_in, due_in, clock_in, given_in, GivesOnce, GiveOnce}
 use Rattle.serve_links.proofs.Due.{turned, among_first, said_both, due_out, KeepsBut, keeps_settled, own_nowhere}
 use Rattle.serve_links.specs.Links.{AllFail}
 use Rattle.serve_links.specs.CoreSteps.{Walks, IsFailure, IsSending}
@@ -158,13 +159,69 @@ waiting_out past at (call ∷ first) later due = (
   waiting_out past at first later due.2,
 )
 
+-- for what they fail: what was told before stays told
+
+given_up_later : (steps past : List Step) (number : ℕ) → WasGivenUp number past → WasGivenUp number (steps ++ past)
+given_up_later steps past number g = record {
+  at = g.at;
+  why = g.why;
+  limit = g.limit;
+  later = steps ++ g.later;
+  earlier = g.earlier;
+  was = ap (λ l. steps ++ l) g.was ∙ sym (append_assoc steps g.later (Lost g.at g.why g.limit ∷ g.earlier));
+  out = g.out;
+}
+
+late_later : (steps past : List Step) (number : ℕ) → WasLate number past → WasLate number (steps ++ past)
+late_later steps past number g = record {
+  at = g.at;
+  limit = g.limit;
+  now = g.now;
+  later = steps ++ g.later;
+  earlier = g.earlier;
+  was = ap (λ l. steps ++ l) g.was ∙ sym (append_assoc steps g.later (Late g.at number g.limit g.now ∷ g.earlier));
+}
+
+pub all_given_later : (steps past : List Step) (calls : List SaidAsk) → AreGivenUp past calls → AreGivenUp (steps ++ past) calls
+all_given_later steps past [] given = tt
+all_given_later steps past (call ∷ calls) given = (given_up_later steps past call.0 given.0, all_given_later steps past calls given.1)
+
+-- of the first of them, and of the others
+pub given_parts : (past : List Step) (first later : List SentCall) → AreGivenUp past (said_asks (first ++ later)) → AreGivenUp past (said_asks first) × AreGivenUp past (said_asks later)
+given_parts past [] later given = (tt, given)
+given_parts past (call ∷ first) later given = let rest = given_parts past first later given.1 in ((given.0, rest.0), rest.1)
+
+-- those that are out there as their connection is given up
+pub given_now : (past : List Step) (at : ℕ) (why : Option Cause) (limit : ℕ) (calls : List SaidAsk) → ((n : ℕ) → IsAmong n calls → IsAmong n (talk_in past at).out) → AreGivenUp (Lost at why limit ∷ past) calls
+given_now past at why limit [] among = tt
+given_now past at why limit (call ∷ calls) among =
+    (record { at = at; why = why; limit = limit; later = []; earlier = past; was = refl; out = among call.0 (inl refl) }, given_now past at why limit calls (λ n is. among n (inr is)))
+
+-- each of these calls fails for a reason
+abbrev pub AllFailFor : List Step → List SaidAsk → Type 0
+AllFailFor past [] = Unit {0}
+AllFailFor past (said ∷ others) = FailsFor said.0 past × AllFailFor past others
+
+-- those whose connection was given up
+pub sent_fail : (past : List Step) (calls : List SaidAsk) → AreGivenUp past calls → AllFailFor past calls
+sent_fail past [] given = tt
+sent_fail past (call ∷ calls) given = (inr (inl given.0), sent_fail past calls given.1)
+
+pub due_fails : (past : List Step) (number : ℕ) (call : ℕ × Ask) → due_in past number ≡ Some call → FailsFor number past
+due_fails past number call due = inl (subst (λ (o : Option (ℕ × Ask)). IsSome o) (sym due) refl)
+
+-- and those that are still to be asked
+pub waiting_fail : (past : List Step) (at : ℕ) (first later : List SentCall) → AreDue past at (said_asks (first ++ later)) → AllFailFor past (said_asks first)
+waiting_fail past at [] later due = tt
+waiting_fail past at (call ∷ first) later due = (due_fails past call.ticket.number (at, call.ticket.ask) due.0, waiting_fail past at first later due.2)
+
 -- the walk that they make as they fail, while none is out there
 pub record FailsInOrder (at : ℕ) (calls : List SentCall) (a b : ServedCore) : Type 0 where
   pub steps : List Step
   pub kinds : StepsAreOf IsFailure steps
   pub walks : Walks steps a b
   pub keeps : (past : List Step) → KeepsBut (said_asks calls) past (steps ++ past)
-  pub orderly : (past : List Step) → AreOut past at (said_asks calls) → (talk_in past at).out ≡ [] → IsOrderly past → IsOrderly (steps ++ past)
+  pub orderly : (past : List Step) → AreOut past at (said_asks calls) → AllFailFor past (said_asks calls) → (talk_in past at).out ≡ [] → IsOrderly past → IsOrderly (steps ++ past)
 
 -- one more has failed before
 fails_before : (at : ℕ) (call : SentCall) (calls : List SentCall) (a mid b : ServedCore) → IsSettled a call.ticket.number Failed mid → FailsInOrder at calls mid b → FailsInOrder at (call ∷ calls) a b
@@ -173,8 +230,8 @@ fails_before at call calls a mid b is rest = record {
   kinds = of_both IsFailure rest.steps (step ∷ []) rest.kinds (refl, tt);
   walks = walked rest.steps (step ∷ []) a mid b (a, refl, is) rest.walks;
   keeps = λ past. subst (KeepsBut (said_asks (call ∷ calls)) past) (sym (append_assoc rest.steps (step ∷ []) past)) (keeps past);
-  orderly = λ past out none o.
-      subst IsOrderly (sym (append_assoc rest.steps (step ∷ []) past)) (rest.orderly (step ∷ past) (still past (said_asks calls) out.1 out.2) none ((settles past out.0 none o, tt), o));
+  orderly = λ past out fail none o.
+      subst IsOrderly (sym (append_assoc rest.steps (step ∷ []) past)) (rest.orderly (step ∷ past) (still past (said_asks calls) out.1 out.2) (still_fail past (said_asks calls) out.1 fail.1) none ((settles past out.0 none o, fail.0), o));
 }
   where
     number : ℕ
@@ -194,8 +251,17 @@ fails_before at call calls a mid b is rest = record {
     still past [] not out = tt
     still past (one ∷ l) not out = ((keeps_settled past number Failed call.dialect call.ticket.ask call.since one.0 (turned not.0, tt)).0 ∙ out.0, out.1, still past l not.1 out.2)
 
+    for_same : (past : List Step) (n : ℕ) → due_in (step ∷ past) n ≡ due_in past n → FailsFor n past → FailsFor n (step ∷ past)
+    for_same past n same (inl due) = inl (subst (λ (o : Option (ℕ × Ask)). IsSome o) (sym same) due)
+    for_same past n same (inr (inl given)) = inr (inl (given_up_later (step ∷ []) past n given))
+    for_same past n same (inr (inr late)) = inr (inr (late_later (step ∷ []) past n late))
+
+    still_fail : (past : List Step) (l : List SaidAsk) → IsNotAmong number l → AllFailFor past l → AllFailFor (step ∷ past) l
+    still_fail past [] not fail = tt
+    still_fail past (one ∷ l) not fail = (for_same past one.0 (keeps_settled past number Failed call.dialect call.ticket.ask call.since one.0 (turned not.0, tt)).1 fail.0, still_fail past l not.1 fail.1)
+
 pub fail_in_order : (at : ℕ) (calls : List SentCall) (a b : ServedCore) → AllFail calls a b → FailsInOrder at calls a b
-fail_in_order at [] a b all = record { steps = []; kinds = tt; walks = all; keeps = λ past n not. (refl, refl, refl); orderly = λ past out none o. o }
+fail_in_order at [] a b all = record { steps = []; kinds = tt; walks = all; keeps = λ past n not. (refl, refl, refl); orderly = λ past out fail none o. o }
 fail_in_order at (call ∷ calls) a b all = fails_before at call calls a all.0 b all.1 (fail_in_order at calls all.0 b all.2)
 
 -- ---- steps of one server

@@ -22,7 +22,7 @@ use Rattle.serve_links.specs.declared.news.Cause.TheVariants as causes
 use Rattle.serve_links.specs.CoreSteps.{Step, Opened, NotOpened, Fed, Polled, Stopped, Settled, Gave, Closed, LeftLine, Broke, Ticked, Loaded, Linked, Asked, Greeted, Spelled, Late, CameLate, Lost, Walks, StepsAreOf}
 use Rattle.serve_links.specs.Shut.{drain_of, AreShut, StaysShut}
 use Rattle.serve_links.specs.Called.{call_in, due_in, clock_in, given_in, TellsCallsOut}
-use Rattle.serve_links.specs.Talks.{SaidAsk, Talk, Apart, Ending, talk_in, IsCalledIn, MayBeAsked, IsStoreFirst, IsNotAmong, AreDue, AreCalled, IsOrderly, IsOfClients, IsOfServer}
+use Rattle.serve_links.specs.Talks.{SaidAsk, Talk, Apart, Ending, talk_in, IsCalledIn, MayBeAsked, IsStoreFirst, IsNotAmong, AreGivenUp, AreDue, AreCalled, IsOrderly, IsOfClients, IsOfServer}
 use Rattle.std.specs.Option.{option_map}
 
 -- all that the core was fed for this client since it was opened, by the calls of a walk, the latest first
@@ -210,13 +210,17 @@ abbrev pub Unused : List WireEvent → ℕ → List ℕ → Talk → Option ℕ 
 Unused h at text talk None = talk.stands ≡ Apart
 Unused h at text talk (Some c) = (talk.stands ≡ Ending) × (held unsent : List ℕ) × (opened : ℕ) × TalkAgrees h at (text, opened) talk c held unsent talk.out talk.awaits talk.dialect talk.late
 
--- a link agrees with these calls, its connection is not over, and all calls that wait for it may go there, and weren't asked yet, and those that were sent are out; without a connection no call is out there
+-- no call is out at this server, and each of these failed or is to fail, as its connection was given up
+abbrev pub AllGivenUp : List Step → ℕ → List SaidAsk → Type 0
+AllGivenUp past at calls = ((talk_in past at).out ≡ []) × AreGivenUp past calls
+
+-- a link agrees with these calls, its connection is not over, and all calls that wait for it may go there, and weren't asked yet, and those that were sent are out; without a connection no call is out there, and that of those was given up
 pub record LineAgrees (at : ℕ) (past : List Step) (h : List WireEvent) (link : Link) : Type 0 where
   pub conn : (conn : Conn) → link.conn ≡ Some conn → ConnAgrees at past h link conn conn.held.items
   pub goes_on : (conn : Conn) → link.conn ≡ Some conn → is_over conn.number h ≡ false
   pub waiting : MayAllGo past at link.waiting.items
   pub due : AreDue past at (said_asks link.waiting.items)
-  pub none_out : link.conn ≡ None → (talk_in past at).out ≡ []
+  pub none_out : link.conn ≡ None → AllGivenUp past at (said_asks link.calls.sent.items)
   pub unused : link.conn ≡ None → Unused h at link.text.items (talk_in past at) (drain_of link)
   pub called : AreCalled past at (said_asks link.calls.sent.items)
 
@@ -225,7 +229,7 @@ pub record LineLost (at : ℕ) (past : List Step) (h : List WireEvent) (link : L
   pub conn : (conn : Conn) → link.conn ≡ Some conn → (held : List ℕ) × ConnAgrees at past h link conn held
   pub waiting : MayAllGo past at link.waiting.items
   pub due : AreDue past at (said_asks link.waiting.items)
-  pub none_out : link.conn ≡ None → (talk_in past at).out ≡ []
+  pub none_out : link.conn ≡ None → AllGivenUp past at (said_asks link.calls.sent.items)
   pub unused : link.conn ≡ None → Unused h at link.text.items (talk_in past at) (drain_of link)
   pub called : AreCalled past at (said_asks link.calls.sent.items)
 

@@ -1,5 +1,5 @@
 -- What a walk tells of what was said over each server's connection. Source: mcgate's own.
-use Rattle.std.specs.Prelude.{Option, None, Some, ◌≡◌, ◌≢◌, ◌⊎◌, ℕ, ◌+◌, ◌<◌, ◌≤◌, true, false, List, [], ◌∷◌, ◌++◌, nat_eq, length, if◌then◌else◌}
+use Rattle.std.specs.Prelude.{Option, None, Some, IsSome, ◌≡◌, ◌≢◌, ◌⊎◌, ℕ, ◌+◌, ◌<◌, ◌≤◌, true, false, List, [], ◌∷◌, ◌++◌, nat_eq, length, if◌then◌else◌}
 use Rattle.mc_types.specs.declared.ask.Ask.{Ask}
 use Rattle.mc_types.specs.declared.ask.Dialect.{Dialect}
 use Rattle.mc_types.specs.declared.ask.Dialect.TheVariants.{Classic}
@@ -202,19 +202,52 @@ pub record IsJustSpelled (number : ℕ) (answer : Answer) (steps : List Step) : 
   pub earlier : List Step
   pub last : steps ≡ Spelled at number ask answer bytes ∷ earlier
 
+-- one of these calls has this number
+abbrev pub IsAmong : ℕ → List SaidAsk → Type 0
+IsAmong n [] = ⊥
+IsAmong n (said ∷ others) = (said.0 ≡ n) ⊎ IsAmong n others
+
+-- the connection over which the call of this number was asked was given up while it was out there
+pub record WasGivenUp (number : ℕ) (steps : List Step) : Type 0 where
+  pub at : ℕ
+  pub why : Option Cause
+  pub limit : ℕ
+  pub later : List Step
+  pub earlier : List Step
+  pub was : steps ≡ later ++ Lost at why limit ∷ earlier
+  pub out : IsAmong number (talk_in earlier at).out
+
+-- the call of this number was late
+pub record WasLate (number : ℕ) (steps : List Step) : Type 0 where
+  pub at : ℕ
+  pub limit : ℕ
+  pub now : ℕ
+  pub later : List Step
+  pub earlier : List Step
+  pub was : steps ≡ later ++ Late at number limit now ∷ earlier
+
+-- the connection of each of these calls was given up while it was out there
+abbrev pub AreGivenUp : List Step → List SaidAsk → Type 0
+AreGivenUp steps [] = Unit {0}
+AreGivenUp steps (said ∷ others) = WasGivenUp said.0 steps × AreGivenUp steps others
+
+-- why the call of this number fails: it is still to be asked, so that no server was sent any of it; or its connection was given up while it was out there; or it was late. None fails whose answer came
+abbrev pub FailsFor : ℕ → List Step → Type 0
+FailsFor number steps = IsSome (due_in steps number) ⊎ WasGivenUp number steps ⊎ WasLate number steps
+
 -- the core has a call of this number out, and no server has it, or has it any more
 pub record MaySettle (number : ℕ) (steps : List Step) : Type 0 where
   pub call : ℕ × Ask
   pub is_out : call_in steps number ≡ Some call
   pub nowhere : (at : ℕ) → IsNotAmong number (talk_in steps at).out
 
--- no call is answered but by what its server's bytes spell
+-- no call is answered but by what its server's bytes spell, and none fails but for a reason that the steps before it tell
 abbrev pub ComesBy : ℕ → Outcome → List Step → Type 0
 ComesBy number (Answered answer) past = IsJustSpelled number answer past
-ComesBy number Failed past = Unit {0}
+ComesBy number Failed past = FailsFor number past
 
 -- after these steps this one may come: a connection is begun where none is there, also none whose end is awaited; a server is asked what the core gave out for it last under that number, once, in a dialect that it speaks, its time counting from then or later, and neither while late answers are still to come nor before it said that it emptied itself where it is to do that first; tells of its dialects where it is asked for that, and then answers its calls in
--- their order, those that are late too, whose answers settle nothing; the first of those that are out is late once one of them, or of those that were late before it, has waited too long; a call is settled that no server has, by its answer, or as it failed; and none is given out while one of its number is out
+-- their order, those that are late too, whose answers settle nothing; the first of those that are out is late once one of them, or of those that were late before it, has waited too long; a call is settled that no server has, by its answer, or as it failed for a reason; and none is given out while one of its number is out
 abbrev pub MayComeNext : Step → List Step → Type 0
 MayComeNext (Asked at number dialect ask since) past = MayBeAsked past number at dialect ask × (due_in past number ≡ Some (at, ask)) × ((talk_in past at).late ≡ []) × (awaits_flush (talk_in past at).awaits ≡ false) × (given_in past number ≤ since)
 MayComeNext (Greeted at dialect bytes) past = GreetsAwaited (talk_in past at).awaits dialect bytes

@@ -41,7 +41,7 @@ use Rattle.serve_links.proofs.Called.{given_besides, walks_tell_calls}
 use Rattle.serve_links.specs.Pieces.{FeedsHeld}
 use Rattle.serve_links.specs.Story.{fed_in, gave_in, is_open_in, is_broken_in, ClientAgreesWith, ClientIsTold, ClientsAreTold, TellsNone, HasOrHad, said_asks, StayOut, IsInHand, address_and_limits, LineState, line_of, LineAgrees, LineCalled, LinesAgree, OneGoes, LineGoesFrom, LineGoes, AnEnd, Agrees, AgreesGiven, AgreesBut, AgreesCalled, AgreesDue, AllGoFrom, AllGo, texts_of, servers_of, AgreesSent}
 use Rattle.serve_links.proofs.Reading.{breaks_now}
-use Rattle.serve_links.proofs.Talking.{IsPlain, plain_talk, clients_orderly, clients_clock}
+use Rattle.serve_links.proofs.Talking.{IsPlain, plain_talk, clients_orderly, clients_clock, due_fails}
 use Rattle.serve_links.proofs.Story.{one_agrees, at_told, each_told, all_told, same_told, had_stays, one_of_all, line_among, line_stays_by, line_stays, unlinked_stays, all_still, from_then, go_between, all_but, but_all}
 use Rattle.serve_links.proofs.ByLimits.{servers_same, clients_servers}
 use Rattle.serve_links.proofs.Showing.{plain_unlost, none_since, shown_since, shown_later}
@@ -516,7 +516,7 @@ refused_go {h} {cs} {ls} number a b is =
       kinds = (refl, tt);
       walks = (a, refl, is);
       agree = λ past due. let was = due.0 in record {
-        orderly = ((settles past was.orderly due.1, tt), was.orderly);
+        orderly = ((settles past was.orderly due.1, due_fails past number (due.1.at, due.1.ask) due.1.due), was.orderly);
         calls = (walks_tell_calls.goes_on (step ∷ []) past a b was.calls (a, refl, is)).0;
         clients = agree_told h (fed_in past) (gave_in past) (fed_in (step ∷ past)) (gave_in (step ∷ past)) cs (λ j. (refl, refl)) was.clients;
         told = all_told past (step ∷ []) cs (λ j. (refl, refl, refl, refl)) was.told;

@@ -27,7 +27,7 @@ use Rattle.serve_links.specs.CoreSteps.{Step, Loaded, Walks, StepsAreOf}
 use Rattle.serve_links.specs.declared.settings.Greeting.{Greeting}
 use Rattle.serve_links.specs.Story.{fed_in, gave_in, ClientIsTold, said_asks, said_late, address_and_limits, server_and_opened, LineState, line_of, Unused, LineAgrees, LinesAgree, AnEnd, Agrees, AllGoFrom, AllGo, texts_of, servers_of, MayAllGo}
 use Rattle.serve_links.specs.Shut.{drain_of, link_conn, IsShutBut}
-use Rattle.serve_links.specs.Talks.{Apart, talk_in, AreDue, AreCalled, IsOrderly}
+use Rattle.serve_links.specs.Talks.{Apart, talk_in, AreDue, AreCalled, AreGivenUp, IsOrderly}
 use Rattle.serve_links.specs.Called.{TellsCallsOut}
 use Rattle.serve_links.proofs.Called.{walks_tell_calls}
 use Rattle.serve_links.proofs.Shutting.{shut_quiet}
@@ -137,7 +137,7 @@ lines_grow h past ls ls' adds orderly unlinked was at link there = by (in_both (
 
     by : (slice_get (link_lines ls) at ≡ Some (line_of link)) ⊎ ((slice_get (link_lines ls) at ≡ None) × (k : ℕ) × (slice_get (each down_line adds.0) k ≡ Some (line_of link))) → LineAgrees at past h link
     by (inl old) = of_old (slice_get ls at) refl (get_line ls at ∙ old)
-    by (inr new) = let down = is_down adds.0 new.1 (line_of link) new.2 in has_none at past h link (no_conn link.conn down.0) (subst (λ w. MayAllGo past at w) (sym down.1) tt) (subst (λ w. AreDue past at (said_asks w)) (sym down.1) tt) (unlinked at (none_of ls at new.0)).0 (subst (Unused h at link.text.items (talk_in past at)) (sym down.3) (unlinked at (none_of ls at new.0)).1) (subst (λ l. AreCalled past at l) (sym down.2) tt)
+    by (inr new) = let down = is_down adds.0 new.1 (line_of link) new.2 in has_none at past h link (no_conn link.conn down.0) (subst (λ w. MayAllGo past at w) (sym down.1) tt) (subst (λ w. AreDue past at (said_asks w)) (sym down.1) tt) ((unlinked at (none_of ls at new.0)).0, subst (AreGivenUp past) (sym down.2) tt) (subst (Unused h at link.text.items (talk_in past at)) (sym down.3) (unlinked at (none_of ls at new.0)).1) (subst (λ l. AreCalled past at l) (sym down.2) tt)
 
 abbrev texts_in : List (List ℕ × LinkLimits) → List (List ℕ)
 texts_in servers = each (λ (s : List ℕ × LinkLimits). s.0) servers

@@ -17,7 +17,7 @@ use Rattle.serve_links.specs.Story.{fed_in, gave_in, said_asks, TalkAgrees, Unus
 use Rattle.serve_links.proofs.Called.{walks_tell_calls}
 use Rattle.serve_links.proofs.Due.{due_stays, called_stays}
 use Rattle.serve_links.proofs.Showing.{shown_since}
-use Rattle.serve_links.proofs.Talking.{calls_later}
+use Rattle.serve_links.proofs.Talking.{calls_later, all_given_later}
 use Rattle.serve_links.proofs.Story.{had_stays}
 use Rattle.serve_proxy.proofs.Going.{agree_told}
 
@@ -52,7 +52,7 @@ line_ticks t at past h link was = record {
   goes_on = was.goes_on;
   waiting = calls_later (Ticked t ∷ []) past at link.waiting.items was.waiting;
   due = due_stays past (Ticked t ∷ past) at (said_asks link.waiting.items) (λ n ask is. (refl, refl, refl)) was.due;
-  none_out = was.none_out;
+  none_out = λ none. ((was.none_out none).0, all_given_later (Ticked t ∷ []) past (said_asks link.calls.sent.items) (was.none_out none).1);
   unused = λ none. unused_ticks t h at link.text.items (talk_in past at) (drain_of link) (was.unused none);
   called = called_stays past (Ticked t ∷ past) at (said_asks link.calls.sent.items) (λ n ask is. (refl, refl, refl)) was.called;
 }
