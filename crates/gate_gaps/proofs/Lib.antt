@@ -6,7 +6,6 @@ pub mod Leaking
 pub mod Bait
 pub mod Scripts
 pub mod Gaps
-pub mod Counting
 mod Reaching
 mod Naming
 pub mod Written

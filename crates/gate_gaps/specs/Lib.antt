@@ -4,7 +4,6 @@ pub mod Beside
 pub mod Leaking
 pub mod Bait
 pub mod Scripts
-pub mod Numbers
 pub mod Ways
 pub mod ServerUses
 pub mod Explanations

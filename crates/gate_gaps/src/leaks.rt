@@ -1,7 +1,4 @@
 //! Scripts that leak: for a gap of a tree, a run in which a delete is acknowledged and an older item is shown.
 
 pub mod laws;
-pub mod numbers;
 pub mod turns;
-
-pub use numbers::{failing_before_acknowledged, failing_before_shown};

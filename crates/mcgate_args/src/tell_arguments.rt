@@ -21,7 +21,7 @@ Tells the mcgate serve that runs with --control PATH, and prints what it answers
   drain      it accepts nobody any more, closes each client once nothing of it is under way, and ends; the answer comes then
   reload     it reads its FILE now, and prints what came of it, as after --reload-ms
   status     what it counts, as /stats.json of --metrics
-  servers    a line for each server: up, down, late or unused, and its calls that are out
+  servers    a line for each server: up, late, down, unused or unknown, and its calls that are out
   log LEVEL  lines of LEVEL and more urgent ones are written from now on, as with --log-level LEVEL: error, warn, info or debug
   where KEY  where KEY lives in the tree in use, as mcgate where prints it
 Exit status: 0 done, 1 refused, or clients were left when it drained, 2 bad arguments, 3 memory or a device failed, also where nobody answers.
