@@ -798,9 +798,10 @@ line_ends {Is} {at} {core} {h} {k} {h'} why kind apart x y c none was is r shows
     left past a =
         has_none at (Lost at why x.limits.connect_ms ∷ past) h' y (ap (λ (z : Link). z.conn) is ∙ none)
         (calls_later (Lost at why x.limits.connect_ms ∷ []) past at y.waiting.items (subst (λ w. MayAllGo past at w) (sym (ap (λ (z : Link). z.waiting.items) is)) a.waiting))
-        (due_stays past (Lost at why x.limits.connect_ms ∷ past) at (said_asks y.waiting.items) (λ n ask is. (refl, refl, refl)) (subst (λ w. AreDue past at (said_asks w)) (sym (ap (λ (z : Link). z.waiting.items) is)) a.due))
-        (ap (λ (t : Talk). t.out) (talk past),
-        subst (AreGivenUp (Lost at why x.limits.connect_ms ∷ past)) (sym (ap (λ (z : Link). said_asks z.calls.sent.items) is)) (all_given_later (Lost at why x.limits.connect_ms ∷ []) past (said_asks x.calls.sent.items) (a.none_out none).1))
+        (due_stays past (Lost at why x.limits.connect_ms ∷ past) at (said_asks y.waiting.items) (λ n ask is. (refl, refl, refl)) (subst (λ w. AreDue past at (said_asks w)) (sym (ap (λ (z : Link). z.waiting.items) is)) a.due)) (
+          ap (λ (t : Talk). t.out) (talk past),
+          subst (AreGivenUp (Lost at why x.limits.connect_ms ∷ past)) (sym (ap (λ (z : Link). said_asks z.calls.sent.items) is)) (all_given_later (Lost at why x.limits.connect_ms ∷ []) past (said_asks x.calls.sent.items) (a.none_out none).1),
+        )
         (subst (Unused h' at y.text.items (talk_in (Lost at why x.limits.connect_ms ∷ past) at)) (sym (ap drain_of is)) (ap (λ (t : Talk). t.stands) (talk past) ∙ apart))
         (called_stays past (Lost at why x.limits.connect_ms ∷ past) at (said_asks y.calls.sent.items) (λ n ask is. (refl, refl, refl)) (subst (λ l. AreCalled past at l) (sym (ap (λ (z : Link). said_asks z.calls.sent.items) is)) a.called))
 
