@@ -14,7 +14,7 @@ use Rattle.serve_links.specs.declared.link.Link.{Link}
 use Rattle.serve_links.specs.Dialects.{IsGreeting, flushed_of, Greets, GreetsNone, TellsIn, ReadsDialect, ReadsGreeting, four_more}
 use Rattle.serve_links.specs.declared.settings.Greeting.{Greeting}
 use Rattle.serve_links.specs.declared.settings.ServerDialect.TheVariants as asks
-use Rattle.serve_links.specs.Lines.{TakesGreeting, HasLearnt, Learns}
+use Rattle.serve_links.specs.Lines.{TakesGreeting, Learns}
 
 first_line : (text rest : List ℕ) → take (length text + 1) (text ++ LF ∷ rest) ≡ text ++ LF ∷ []
 first_line text rest = take-append-add text (LF ∷ rest) 1

@@ -19,7 +19,7 @@ use Rattle.serve_links.specs.Calls.{IsForeignToLate, PassesOver}
 use Rattle.serve_links.specs.Dialects.{IsForeignIn, GreetsNone}
 use Rattle.serve_links.specs.Settled.{HoldsForeign}
 use Rattle.serve_links.specs.CoreSteps.{Step}
-use Rattle.serve_links.specs.Called.{call_in, TellsCallsOut}
+use Rattle.serve_links.specs.Called.{TellsCallsOut}
 use Rattle.serve_links.specs.Talks.{SaidAsk, talk_in, AreCalled}
 use Rattle.serve_links.specs.Story.{said_asks, said_late, IsForeign, LineIsForeign, LineAgrees, LineFails, LineGoesFrom, ShowsWhy}
 use Rattle.serve_links.proofs.Called.{walks_tell_calls}

@@ -7,7 +7,7 @@ use Rattle.mc_types.specs.declared.ask.Ask.{Ask}
 use Rattle.mc_types.specs.declared.ask.Dialect.{Dialect}
 use Rattle.wire_stream.specs.Spelling.{spelling_of}
 use Rattle.wire_parts.specs.Sending.{bytes_of}
-use Rattle.serve_wire.specs.Events.{WireEvent, connects, closes, role, begin_of, delivered, taken, is_over, time, IsUntold}
+use Rattle.serve_wire.specs.Events.{WireEvent, connects, role, begin_of, delivered, taken, is_over, time, IsUntold}
 use Rattle.serve_wire.specs.Flow.{ReadsOn, SendsOn, Stands}
 use Rattle.serve_wire.specs.Calls.{Closes}
 use Rattle.serve_wire.specs.Agreement.{Extends, IsUntouched, TouchesOnly}
@@ -22,7 +22,7 @@ use Rattle.serve_links.specs.declared.link.Opening.{Opening}
 use Rattle.serve_links.specs.declared.link.Opening.TheVariants as opening
 use Rattle.serve_links.specs.declared.link.Link.{Link}
 use Rattle.serve_links.specs.declared.news.Cause.{Cause}
-use Rattle.serve_links.specs.CoreSteps.{Step, Opened, NotOpened, Fed, Polled, Stopped, Settled, Gave, Closed, LeftLine, Broke, Ticked, Loaded, Linked, Asked, Greeted, Spelled, Late, CameLate, Lost, StepsAreOf, IsOfTurn, IsFailure, IsGivingUp, IsSending, OnlyFails}
+use Rattle.serve_links.specs.CoreSteps.{Step, Opened, NotOpened, Fed, Polled, Stopped, Settled, Gave, Closed, LeftLine, Broke, Ticked, Loaded, Linked, Asked, Greeted, Spelled, Late, CameLate, Lost, StepsAreOf, IsOfTurn, IsFailure, IsGivingUp, IsSending}
 use Rattle.serve_links.specs.Dialects.{asked_in, GreetsAwaited, awaits_flush}
 use Rattle.serve_links.specs.Lines.{first_asked_of, awaits_first, first_dialect, greeting_of, SameLine, KeepsLines, IsNewEnd, HasNewEnd, OpensLink, TakesGreeting, HasLearnt, Learns}
 use Rattle.serve_links.specs.Links.{FailsTo}
@@ -31,8 +31,8 @@ use Rattle.serve_links.specs.Talks.{SaidAsk, Talk, Apart, Ending, standing_after
 use Rattle.serve_links.specs.Called.{TellsCallsOut}
 use Rattle.serve_links.proofs.Called.{walks_tell_calls}
 use Rattle.serve_links.specs.Story.{said_asks, said_late, MayGo, MayAllGo, TalkAgrees, Unused, AllGivenUp, ConnAgrees, LineAgrees, LineLost, LineFails, ShowsWhy, WasShown, StepsAreShown, LineCalled, address_and_opened, address_and_limits, server_and_opened, LineState, line_of, KeepsOthers, LeavesCalls, LineGoesFrom, LineGoes}
-use Rattle.serve_links.proofs.Talking.{calls_later, one_more, IsPlain, plain_talk, AreOut, sent_out, waiting_out, all_given_later, given_parts, given_now, sent_fail, waiting_fail, FailsInOrder, fail_in_order}
-use Rattle.serve_links.proofs.Due.{due_stays, called_stays, leaves_twice, due_last, called_last, due_behind, due_taken, SentGone, sent_gone, waiting_gone, AskedOne, asked_one}
+use Rattle.serve_links.proofs.Talking.{calls_later, one_more, IsPlain, plain_talk, sent_out, waiting_out, all_given_later, given_parts, given_now, sent_fail, waiting_fail, FailsInOrder, fail_in_order}
+use Rattle.serve_links.proofs.Due.{due_stays, called_stays, leaves_twice, due_behind, due_taken, SentGone, sent_gone, waiting_gone, AskedOne, asked_one}
 use Rattle.serve_links.proofs.Walked.{walked, of_both}
 use Rattle.serve_links.proofs.ByLimits.{unlost_late, same_server, same_text, same_place, place_server, same_opening, server_then}
 use Rattle.serve_links.proofs.Showing.{plain_unlost, none_since, shown_since, shown_later}
@@ -660,16 +660,16 @@ gives_up {at} {core} {h} {h'} why x y c e only same_role closed server waiting s
     talk : (past : List Step) → talk_in (Lost at why x.limits.connect_ms ∷ past) at ≡ given_up why (talk_in past at)
     talk past = ap (λ b. if b then given_up why (talk_in past at) else talk_in past at) (equal at)
 
+    given : (past : List Step) → LineFails why at past h x → AreGivenUp (Lost at why x.limits.connect_ms ∷ past) (said_asks y.calls.sent.items)
+    given past a =
+        given_now past at why x.limits.connect_ms (said_asks y.calls.sent.items)
+        (λ n among. subst (IsAmong n) (sym ((a.lost.conn c e).1.out_is ∙ ap said_asks (sym sent))) among)
+
     left : (past : List Step) → LineFails why at past h x → LineAgrees at (Lost at why x.limits.connect_ms ∷ past) h' y
     left past a =
         has_none at (Lost at why x.limits.connect_ms ∷ past) h' y closed (calls_later (Lost at why x.limits.connect_ms ∷ []) past at y.waiting.items (subst (λ w. MayAllGo past at w) (sym waiting) a.lost.waiting))
         (due_stays past (Lost at why x.limits.connect_ms ∷ past) at (said_asks y.waiting.items) (λ n ask is. (refl, refl, refl)) (subst (λ w. AreDue past at (said_asks w)) (sym waiting) a.lost.due)) (ap (λ (t : Talk). t.out) (talk past), given past a) (unused past a)
         (called_stays past (Lost at why x.limits.connect_ms ∷ past) at (said_asks y.calls.sent.items) (λ n ask is. (refl, refl, refl)) (subst (λ (l : List SentCall). AreCalled past at (said_asks l)) (sym sent) a.lost.called))
-
-    given : (past : List Step) → LineFails why at past h x → AreGivenUp (Lost at why x.limits.connect_ms ∷ past) (said_asks y.calls.sent.items)
-    given past a =
-        given_now past at why x.limits.connect_ms (said_asks y.calls.sent.items)
-        (λ n among. subst (IsAmong n) (sym ((a.lost.conn c e).1.out_is ∙ ap said_asks (sym sent))) among)
 
     was_shown : (past : List Step) → LineFails why at past h x → WasShown why x.limits.connect_ms at past h'
     was_shown past a = let t = (a.lost.conn c e).1 in record {

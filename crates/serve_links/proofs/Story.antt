@@ -8,7 +8,6 @@ use Rattle.mc_types.specs.declared.ask.Dialect.{Dialect}
 use Rattle.wire_parts.specs.Sending.{bytes_of}
 use Rattle.serve_wire.specs.Events.{WireEvent, role, delivered, taken}
 use Rattle.serve_wire.specs.Agreement.{ClientLost, IsUntouched}
-use Rattle.serve_wire.specs.declared.conn.conn.Conn.{Conn}
 use Rattle.serve_wire.proofs.Steps.{apart, only_after, only_time}
 use Rattle.core_proxy.specs.declared.note.Poll.TheVariants as polls
 use Rattle.serve_clients.specs.declared.clients.Client.{Client}
@@ -18,9 +17,9 @@ use Rattle.serve_clients.proofs.Agreeing.{its, state_stays, client_lost}
 use Rattle.serve_clients.specs.Marks.{client_of}
 use Rattle.serve_links.specs.declared.settings.Greeting.{Greeting}
 use Rattle.serve_links.specs.declared.link.Link.{Link}
-use Rattle.serve_links.specs.CoreSteps.{Step, Closed, Opened, Polled, StepsAreOf, IsSending}
+use Rattle.serve_links.specs.CoreSteps.{Step, Polled, StepsAreOf, IsSending}
 use Rattle.serve_links.specs.Talks.{SaidAsk, Talk, Apart, talk_in, AreDue, AreCalled}
-use Rattle.serve_links.specs.Story.{address_and_opened, fed_in, gave_in, is_open_in, is_broken_in, ClientAgreesWith, ClientIsTold, ClientsAreTold, TellsNone, TookAll, ClientEndsBy, IsGone, HasOrHad, TalkAgrees, Unused, said_asks, StayOut, LineAgrees, LinesAgree, servers_of, OneGoes, LineGoesFrom, LineGoes, AnEnd, Agrees, AgreesBut, AgreesCalled, AllGoFrom, AllGo, StoriesGoOn}
+use Rattle.serve_links.specs.Story.{address_and_opened, fed_in, gave_in, ClientAgreesWith, ClientIsTold, ClientsAreTold, TellsNone, TookAll, ClientEndsBy, IsGone, HasOrHad, TalkAgrees, Unused, said_asks, StayOut, LineAgrees, LinesAgree, servers_of, OneGoes, LineGoesFrom, LineGoes, AnEnd, Agrees, AgreesBut, AgreesCalled, AllGoFrom, AllGo, StoriesGoOn}
 use Rattle.serve_links.specs.Called.{TellsCallsOut, GiveOnce}
 use Rattle.serve_links.proofs.Called.{walks_tell_calls}
 use Rattle.serve_links.proofs.Talking.{calls_later, all_given_later, IsPlain, clients_plain, plain_talk, clients_orderly, clients_clock, server_tells_none, server_clock, sending_clock, sending_given, talk_elsewhere}

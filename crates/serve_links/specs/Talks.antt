@@ -9,7 +9,6 @@ use Rattle.mc_types.specs.declared.call.Outcome.TheVariants.{Answered, Failed}
 use Rattle.wire_stream.specs.Spelling.{spelling_of}
 use Rattle.core_accepted.specs.Late.{begins_stamp}
 use Rattle.core_commands.specs.declared.ticket.Ticket.{Ticket}
-use Rattle.core_proxy.specs.declared.note.Poll.{Poll}
 use Rattle.core_proxy.specs.declared.note.Poll.TheVariants as polls
 use Rattle.serve_links.specs.declared.news.Cause.{Cause}
 use Rattle.serve_links.specs.declared.news.Cause.TheVariants as causes
