@@ -122,7 +122,7 @@ impl Client {
     fn replies(&self) -> usize
         ensures { result ≡ min (reply_bytes self.now) usize.MAX }
     {
-        self.conn.unsent.len().saturating_add(self.unshown())
+        self.conn.unsent_len().saturating_add(self.unshown())
     }
 
     // Whether a command of it may begin where so many bytes of replies are its share: none of its calls waits, and less is held.
@@ -178,7 +178,7 @@ impl Client {
         ensures { IsTrue result ↔ ClientIsQuiet self.now }
     {
         self.conn.held.is_empty()
-            && self.conn.unsent.is_empty()
+            && self.conn.is_all_sent()
             && self.waiting == 0
             && self.calls_out == 0
             && self.settled == 0
@@ -307,7 +307,7 @@ impl Client {
     fn has_few(&self) -> bool
         ensures { result ≡ nat_lt (length (bytes_of self.now.conn.unsent)) HELD_BACK }
     {
-        self.conn.unsent.len() < HELD_BACK
+        self.conn.unsent_len() < HELD_BACK
     }
 
     /// Whether what is to be sent to it is held back in this turn: where few bytes are to be sent and calls of it are out, whose replies then
@@ -504,7 +504,7 @@ fn note_at(place: &mut Option<Client>, told: Ready) -> bool
     match place {
         Some(client) => {
             client.conn.note(told);
-            told.writes && !client.conn.unsent.is_empty()
+            told.writes && !client.conn.is_all_sent()
         }
         None => false,
     }

@@ -71,7 +71,7 @@ pub fn send_once<W: Wire>(core: &ServedCore, id: usize, client: &mut Client, wir
     client.has_output = false;
     let was_full = !client.has_room();
     send_unsent(client, wire);
-    let is_over = client.conn.unsent.is_empty() && (client.is_ended || core.is_closed(id));
+    let is_over = client.conn.is_all_sent() && (client.is_ended || core.is_closed(id));
     is_over || (was_full && client.has_room())
 }
 
@@ -103,7 +103,7 @@ pub fn show(core: &mut ServedCore, id: usize, client: &mut Client) -> Result<usi
     ensures gives { OnOk result (Does (Gave id (output_by (client_at core.old.core id))) core.old core.new) }
     ensures same { OnErr result (core.new ≡ core.old) }
 {
-    let unsent = client.conn.unsent.len();
+    let unsent = client.conn.unsent_len();
     core.move_output(id, &mut client.conn.unsent)?;
-    Ok(client.conn.unsent.len().saturating_sub(unsent))
+    Ok(client.conn.unsent_len().saturating_sub(unsent))
 }

@@ -42,5 +42,5 @@ pub fn give_back(alloc: Global, held: &mut BytesMut, input: &mut BytesMut)
 pub fn has_spare(buffer: &SendBuffer) -> bool
     ensures { result ≡ true → bytes_of buffer.now ≡ [] }
 {
-    buffer.is_empty() && buffer.text.capacity() > OWN_ROOM
+    buffer.text.capacity() > OWN_ROOM && buffer.is_empty()
 }

@@ -18,6 +18,9 @@ use serve_wire::conn::Got;
 pub fn read_links<W: Wire>(core: &mut ServedCore, sockets: &mut Sockets<W>)
     ensures ends { AllGoOn W.history core.old sockets.old core.new sockets.new }
 {
+    if sockets.links.ready.is_empty() {
+        return;
+    }
     let links = sockets.work.take(&mut sockets.links.ready);
     for at in links.as_slice() {
         sockets.links.end_ready(*at);

@@ -47,6 +47,14 @@ fn note_told(link: &mut Link, told: Ready) -> Option<bool>
     Some(told.writes && !told.closes && link.stand())
 }
 
+// Whether something is to be sent over its connection, if it has one.
+fn has_unsent(link: &Link) -> bool {
+    match &link.conn {
+        Some(conn) => !conn.is_all_sent(),
+        None => false,
+    }
+}
+
 // The system is asked by now whether its connection stands: whether it does, which may be news.
 #[tactic(auto, using(crate::proofs::Staying::kept_line))]
 fn look_at<W: Wire>(link: &mut Link, wire: &W, now: u64) -> bool
@@ -457,15 +465,23 @@ impl Links {
         }
     }
 
-    // The link is to be read and written, where that was told.
+    // The link is to be read and written, where that was told. (the system also tells that a connection takes more whenever something comes over it)
     fn mark_told(&mut self, at: usize, told: Ready)
         ensures lines { link_lines self.new.all.items ≡ link_lines self.old.all.items }
     {
         if told.reads {
             self.mark_ready(at);
         }
-        if told.writes {
+        if told.writes && self.may_write(at) {
             self.mark_output(at);
+        }
+    }
+
+    // Whether something is to be sent over the link of this number, or calls wait for it.
+    fn may_write(&self, at: usize) -> bool {
+        match self.all.get(at) {
+            Some(link) => has_unsent(link) || link.waiting() > 0,
+            None => false,
         }
     }
 

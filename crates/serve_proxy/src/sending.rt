@@ -19,6 +19,9 @@ const LINK_SENDS: usize = 64;
 pub fn send_links<W: Wire>(core: &mut ServedCore, sockets: &mut Sockets<W>)
     ensures ends { AllFailOn W.history core.old sockets.old core.new sockets.new }
 {
+    if sockets.links.with_output.is_empty() {
+        return;
+    }
     let links = sockets.work.take(&mut sockets.links.with_output);
     for at in links.as_slice() {
         send_link(core, sockets, *at);
@@ -46,6 +49,9 @@ fn send_link<W: Wire>(core: &mut ServedCore, sockets: &mut Sockets<W>, at: usize
 pub fn send_clients<W: Wire>(core: &mut ServedCore, sockets: &mut Sockets<W>)
     ensures ends { AllGoOn W.history core.old sockets.old core.new sockets.new }
 {
+    if sockets.clients.with_output.is_empty() {
+        return;
+    }
     let ids = sockets.work.take(&mut sockets.clients.with_output);
     for id in ids.as_slice() {
         send_client(core, sockets, *id);
@@ -73,9 +79,9 @@ pub fn write_client<W: Wire>(core: &ServedCore, sockets: &mut Sockets<W>, id: us
 {
     match sockets.clients.get_mut(id) {
         Some(client) => {
-            let before = client.conn.unsent.len();
+            let before = client.conn.unsent_len();
             let is_more = send_once(core, id, client, &mut sockets.wire);
-            let after = client.conn.unsent.len();
+            let after = client.conn.unsent_len();
             sockets.stalls.note(id, before, after, sockets.time);
             (is_more, has_spare(&client.conn.unsent))
         }
@@ -108,7 +114,7 @@ impl<W: Wire> Sockets<W> {
 // Whether the link has much to send.
 fn has_much(link: &Link) -> bool {
     match &link.conn {
-        Some(conn) => conn.unsent.len() > KEPT_ROOM,
+        Some(conn) => conn.unsent_len() > KEPT_ROOM,
         None => false,
     }
 }

@@ -51,6 +51,9 @@ pub fn serve_all<W: Wire, N: Net>(net: &N, core: &mut ServedCore, sockets: &mut 
 fn serve_ready<W: Wire, N: Net>(net: &N, core: &mut ServedCore, sockets: &mut Sockets<W>)
     ensures ends { AllGoOn W.history core.old sockets.old core.new sockets.new }
 {
+    if sockets.clients.ready.is_empty() {
+        return;
+    }
     let ids = sockets.work.take(&mut sockets.clients.ready);
     serve_list(net, core, sockets, ids)
 }
@@ -284,10 +287,9 @@ fn is_over<W: Wire>(core: &ServedCore, sockets: &mut Sockets<W>, id: usize, rest
 
 // Whether the client of this end has ended, and nothing is left to do for it.
 fn is_done(core: &ServedCore, id: usize, client: &Client, rest: Rest) -> bool {
-    let is_ended = client.is_ended || core.is_closed(id);
     // Bytes that were left unread would take the last replies with them when the socket is closed.
     let is_read = client.is_ended || !client.conn.readable;
-    client.is_broken || (rest == Rest::Idle && is_ended && is_read)
+    client.is_broken || (rest == Rest::Idle && is_read && (client.is_ended || core.is_closed(id)))
 }
 
 // Whether the core has no more for it, and all was sent to it.
@@ -318,5 +320,5 @@ fn end_has_all(core: &mut ServedCore, id: usize, client: &mut Client) -> bool
 fn is_all_sent(client: &Client) -> bool
     ensures { result ≡ (client.now.is_broken || (length (bytes_of client.now.conn.unsent) == 0)) }
 {
-    client.is_broken || client.conn.unsent.is_empty()
+    client.is_broken || client.conn.is_all_sent()
 }

@@ -68,7 +68,7 @@ fn has_stalled(client: &Client, since: Option<u64>, now: u64, ms: u64) -> bool
     ensures { IsTrue result ↔ HasStalled ms now since client.now }
 {
     match since {
-        Some(from) => client.conn.unsent.len() > MUCH && from <= now && ms <= now - from,
+        Some(from) => client.conn.unsent_len() > MUCH && from <= now && ms <= now - from,
         None => false,
     }
 }

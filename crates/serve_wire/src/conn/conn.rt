@@ -1,7 +1,7 @@
 //! What is held of a connection and what is to be sent over it: a read goes after what is held, a write takes from the front of what is
 //! to be sent.
 
-ghost use Rattle.std.specs.Prelude.{◌≡◌, false, ◌↔◌, ◌<◌, ◌≤◌, ◌++◌, ◌||◌, [], length, drop, IsTrue, IfOk, OnOk, OnErr, MatchResult};
+ghost use Rattle.std.specs.Prelude.{◌≡◌, false, ◌↔◌, ◌<◌, ◌≤◌, ◌==◌, ◌++◌, ◌||◌, [], length, drop, min, IsTrue, IfOk, OnOk, OnErr, MatchResult};
 ghost use Rattle.wire_parts.specs.Sending.{bytes_of};
 ghost use Rattle.serve_wire.specs.Ends.{ReadsConnection, Sends, StaysReadable, StaysWritable};
 
@@ -149,7 +149,27 @@ impl Conn {
     pub fn has_backlog(&self) -> bool
         ensures { IsTrue result ↔ (self.now.limits.unsent ≤ length (bytes_of self.now.unsent)) }
     {
-        self.unsent.len() >= self.limits.unsent
+        self.unsent_len() >= self.limits.unsent
+    }
+
+    /// How many bytes are to be sent, or `usize::MAX` where they are more than that. Mostly they are text alone, which needn't be added up.
+    pub fn unsent_len(&self) -> usize
+        ensures { result ≡ min (length (bytes_of self.now.unsent)) usize.MAX }
+    {
+        if self.unsent.pieces.is_empty() {
+            return self.unsent.text.len();
+        }
+        self.unsent.len()
+    }
+
+    /// Whether nothing is to be sent.
+    pub fn is_all_sent(&self) -> bool
+        ensures { result ≡ (length (bytes_of self.now.unsent) == 0) }
+    {
+        if self.unsent.pieces.is_empty() {
+            return self.unsent.text.is_empty();
+        }
+        self.unsent.is_empty()
     }
 
     /// Whether the room of the other buffer is free: what was cut from it before ([`Conn::hold_again`]) is gone. While it isn't, nothing more is to be cut,

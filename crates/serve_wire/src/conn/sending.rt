@@ -22,7 +22,7 @@ pub fn send<W: Wire>(conn: &mut Conn, wire: &mut W) -> bool
     ensures flags { (conn.new.readable ≡ conn.old.readable) × (conn.new.closing ≡ conn.old.closing) }
 {
     for _ in 0..conn.unsent.pieces.len().saturating_add(WRITES) {
-        if !conn.writable || conn.unsent.is_empty() {
+        if !conn.writable || conn.is_all_sent() {
             return true;
         }
         match conn.send_parts(wire) {

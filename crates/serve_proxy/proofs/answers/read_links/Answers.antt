@@ -2,6 +2,9 @@ use Rattle.serve_proxy.proofs.Going.{still, and_then, stays}
 use Rattle.serve_proxy.proofs.Staying.{stay_links}
 use Rattle.serve_proxy.proofs.answers.read_links.Goals as goal
 
+pub returns-then-is_empty : goal.returns-then-is_empty
+returns-then-is_empty g c = record { ends = still }
+
 pub loop-at-init : goal.loop-at-init
 loop-at-init g c = still
 
