@@ -158,15 +158,39 @@ fn calls_of<W: Wire>(end: &ProxyEnd<W>) -> CallNumbers
     }
 }
 
+// These microseconds in seconds, if they are among those that are told apart: a page has them for each server.
+fn known_seconds(micros: u64) -> Option<&'static str> {
+    match micros {
+        100 => Some("0.0001"),
+        250 => Some("0.00025"),
+        500 => Some("0.0005"),
+        1_000 => Some("0.001"),
+        2_500 => Some("0.0025"),
+        5_000 => Some("0.005"),
+        10_000 => Some("0.01"),
+        50_000 => Some("0.05"),
+        250_000 => Some("0.25"),
+        1_000_000 => Some("1"),
+        _ => None,
+    }
+}
+
+// Microseconds in seconds, without zeros at the end.
+fn seconds_of(alloc: Global, micros: u64) -> Result<String, AllocError> {
+    if let Some(seconds) = known_seconds(micros) {
+        return String::from_str(alloc, seconds);
+    }
+    let micros = Amount::Micros(micros);
+    let text = format!(in alloc; "{micros}")?;
+    String::from_str(alloc, text.trim_end_matches('0').trim_end_matches('.'))
+}
+
 // The longest time at this place of those that are told apart, in seconds.
 fn most_of(alloc: Global, place: usize) -> Result<String, AllocError> {
-    let Some(micros) = SPANS.get(place) else {
-        return String::from_str(alloc, "+Inf");
-    };
-    let micros = Amount::Micros(*micros);
-    let text = format!(in alloc; "{micros}")?;
-    let text = text.trim_end_matches('0').trim_end_matches('.');
-    String::from_str(alloc, text)
+    match SPANS.get(place) {
+        Some(micros) => seconds_of(alloc, *micros),
+        None => String::from_str(alloc, "+Inf"),
+    }
 }
 
 // How many answers of a server, or commands, took how long.

@@ -8,7 +8,11 @@ use Rattle.watch_admin.specs.declared.families.Spread.{Spread}
 use Rattle.watch_admin.specs.declared.families.Samples.TheVariants.{One, Each, Times}
 use Rattle.watch_admin.specs.declared.families.Family.{Family}
 use Rattle.watch_admin.specs.Families.{amount_text, kind_text}
-use Rattle.watch_admin.specs.Quoted.{json_quoted}
+use Rattle.watch_admin.specs.Quoted.{quoted_bytes, json_quoted}
+
+-- NAME="VALUE
+abbrev pub label_front : Label → List ℕ
+label_front label = label.name.now ++ codes "=\"" ++ quoted_bytes (string_bytes label.value)
 
 -- NAME="VALUE"
 abbrev pub label_text : Label → List ℕ

@@ -1,48 +1,66 @@
 //! Families in Prometheus' text format.
 
-ghost use Rattle.std.specs.Prelude.{OnOk, ◌++◌};
+ghost use Rattle.std.specs.Prelude.{OnOk, ◌++◌, codes, decimal, flat_map};
 ghost use Rattle.std.specs.Io.KnownBytes.{Appends};
-ghost use Rattle.watch_admin.specs.Prometheus.{label_text, labels_text, braced_text, amount_end, sample_text, each_text, amount_line, spread_text, samples_text, help_text, type_text, family_text, families_text};
+ghost use Rattle.watch_admin.specs.Families.{amount_text};
+ghost use Rattle.watch_admin.specs.Prometheus.{label_front, label_text, next_label_text, braced_text, sample_text, each_text, amount_line, spread_text, samples_text, help_text, type_text, family_text, families_text};
 
 use crate::families::{Amount, Family, Label, Sample, Samples, Spread};
-use crate::quoted::Quoted;
+use crate::quoted::write_quoted;
+use itoa::write_digits;
 use std::io;
 use std::io::Write;
 
-// Writes `NAME="VALUE"`.
-fn write_label<W: Write>(label: &Label, out: &mut W) -> io::Result<()>
-    ensures { OnOk result (Appends (W.contents out.old) (W.contents out.new) (label_text label.now)) }
+// Writes `NAME="VALUE`, and what comes behind it.
+fn write_label<W: Write>(label: &Label, end: &str, out: &mut W) -> io::Result<()>
+    ensures { OnOk result (Appends (W.contents out.old) (W.contents out.new) (label_front label.now ++ end.now)) }
 {
-    let value = Quoted(label.value.as_str());
     out.write_all(label.name.as_bytes())?;
-    write!(out, "={value}")
+    out.write_all(b"=\"")?;
+    write_quoted(label.value.as_str(), out)?;
+    out.write_all(end.as_bytes())
 }
 
-// Writes `NAME="VALUE",NAME="VALUE"`.
-fn write_labels<W: Write>(labels: &[Label], out: &mut W) -> io::Result<()>
-    ensures { OnOk result (Appends (W.contents out.old) (W.contents out.new) (labels_text labels.now)) }
+// Writes `{NAME="VALUE"} `.
+fn write_only<W: Write>(label: &Label, out: &mut W) -> io::Result<()>
+    ensures { OnOk result (Appends (W.contents out.old) (W.contents out.new) (codes "{" ++ label_text label.now ++ codes "} ")) }
 {
-    let Some((first, rest)) = labels.split_first() else {
-        return Ok(());
-    };
-    write_label(first, out)?;
+    out.write_all(b"{")?;
+    write_label(label, "\"} ", out)
+}
+
+// Writes `{NAME="VALUE",NAME="VALUE"} `.
+fn write_both<W: Write>(first: &Label, second: &Label, out: &mut W) -> io::Result<()>
+    ensures { OnOk result (Appends (W.contents out.old) (W.contents out.new) (codes "{" ++ label_text first.now ++ next_label_text second.now ++ codes "} ")) }
+{
+    out.write_all(b"{")?;
+    write_label(first, "\",", out)?;
+    write_label(second, "\"} ", out)
+}
+
+// Writes `{LABELS} ` of at least one label.
+fn write_all_labels<W: Write>(first: &Label, rest: &[Label], out: &mut W) -> io::Result<()>
+    ensures { OnOk result (Appends (W.contents out.old) (W.contents out.new) (codes "{" ++ label_text first.now ++ flat_map next_label_text rest.now ++ codes "} ")) }
+{
+    out.write_all(b"{")?;
+    write_label(first, "\"", out)?;
     for label in rest {
         out.write_all(b",")?;
-        write_label(label, out)?;
+        write_label(label, "\"", out)?;
     }
-    Ok(())
+    out.write_all(b"} ")
 }
 
-// Writes `{LABELS}`, or nothing where there are none.
-fn write_braced<W: Write>(labels: &[Label], out: &mut W) -> io::Result<()>
-    ensures { OnOk result (Appends (W.contents out.old) (W.contents out.new) (braced_text labels.now)) }
+// Writes `{LABELS} `, or a space where there are none. Most numbers have one label or two, for which few pieces are written.
+fn write_labels<W: Write>(labels: &[Label], out: &mut W) -> io::Result<()>
+    ensures { OnOk result (Appends (W.contents out.old) (W.contents out.new) (braced_text labels.now ++ codes " ")) }
 {
-    if labels.is_empty() {
-        return Ok(());
+    match labels {
+        [] => out.write_all(b" "),
+        [only] => write_only(only, out),
+        [first, second] => write_both(first, second, out),
+        [first, rest @ ..] => write_all_labels(first, rest, out),
     }
-    out.write_all(b"{")?;
-    write_labels(labels, out)?;
-    out.write_all(b"}")
 }
 
 fn write_name<W: Write>(name: &str, part: &str, out: &mut W) -> io::Result<()>
@@ -52,10 +70,23 @@ fn write_name<W: Write>(name: &str, part: &str, out: &mut W) -> io::Result<()>
     out.write_all(part.as_bytes())
 }
 
-fn write_amount<W: Write>(amount: Amount, out: &mut W) -> io::Result<()>
-    ensures { OnOk result (Appends (W.contents out.old) (W.contents out.new) (amount_end amount)) }
+// Writes the digits of a number, and a line's end.
+fn write_count<W: Write>(count: u64, out: &mut W) -> io::Result<()>
+    ensures { OnOk result (Appends (W.contents out.old) (W.contents out.new) (decimal count ++ codes "\n")) }
 {
-    writeln!(out, " {amount}")
+    let mut line = [b'\n'; 21];
+    let start = write_digits(count, &mut line, 20);
+    out.write_all(&line[start..])
+}
+
+// Writes a number, and a line's end. Most numbers are counts.
+fn write_amount<W: Write>(amount: Amount, out: &mut W) -> io::Result<()>
+    ensures { OnOk result (Appends (W.contents out.old) (W.contents out.new) (amount_text amount ++ codes "\n")) }
+{
+    match amount {
+        Amount::Count(count) => write_count(count, out),
+        amount => writeln!(out, "{amount}"),
+    }
 }
 
 // Writes `NAMEPART{LABELS} AMOUNT`, or `NAMEPART AMOUNT` without labels.
@@ -63,7 +94,7 @@ fn write_sample<W: Write>(name: &str, part: &str, sample: &Sample, out: &mut W) 
     ensures { OnOk result (Appends (W.contents out.old) (W.contents out.new) (sample_text name.now part.now sample.now)) }
 {
     write_name(name, part, out)?;
-    write_braced(sample.labels.as_slice(), out)?;
+    write_labels(sample.labels.as_slice(), out)?;
     write_amount(sample.amount, out)
 }
 

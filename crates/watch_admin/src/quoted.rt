@@ -1,10 +1,12 @@
 //! A text within quotation marks.
 
-ghost use Rattle.std.specs.Prelude.{◌≡◌, ◌++◌, [], ◌∷◌, true, Some, codes};
+ghost use Rattle.std.specs.Prelude.{◌≡◌, ◌++◌, [], ◌∷◌, true, Some, OnOk, codes};
+ghost use Rattle.std.specs.Io.KnownBytes.{Appends};
 ghost use Rattle.watch_admin.specs.Quoted.{json_quoted_byte, quoted_bytes, json_quoted};
 
-use std::fmt;
 use std::fmt::Display;
+use std::io::Write;
+use std::{fmt, io};
 
 #[derive(Drop)]
 struct QuotedByte(u8);
@@ -88,4 +90,15 @@ impl Display for Quoted<'_> {
         QuotedText(self.0).fmt(f)?;
         f.write_str("\"")
     }
+}
+
+/// Writes a text as it stands between quotation marks, without them. Most texts are plain, and are written at once.
+pub fn write_quoted<W: Write>(text: &str, out: &mut W) -> io::Result<()>
+    ensures { OnOk result (Appends (W.contents out.old) (W.contents out.new) (quoted_bytes text.now)) }
+{
+    if are_plain(text.as_bytes()) {
+        return out.write_all(text.as_bytes());
+    }
+    let quoted = QuotedBytes(text.as_bytes());
+    write!(out, "{quoted}")
 }
