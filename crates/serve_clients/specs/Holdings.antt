@@ -1,17 +1,10 @@
 -- How many bytes are held for a client, and when one of its commands may begin. Source: mcgate's own.
-use Rattle.std.specs.Prelude.{◌≡◌, ◌⊎◌, [], false, ℕ, ◌+◌, ◌-◌, ◌^◌, ◌<◌, min, nat_eq, length, Option, Some, None, if◌then◌else◌}
+pub use Rattle.serve_clients.specs.Held.{unshown, reply_bytes, held_for, held_of}
+use Rattle.std.specs.Prelude.{◌≡◌, ◌⊎◌, [], false, ℕ, ◌<◌, min, nat_eq, if◌then◌else◌}
 use Rattle.wire_parts.specs.Sending.{bytes_of}
 use Rattle.serve_clients.specs.declared.clients.Client.{Client}
 use Rattle.serve_clients.specs.declared.clients.Clients.{Clients}
 use Rattle.serve_clients.specs.Marks.{client_of}
-
--- how many bytes of answers to its gets wait to be shown, at most: none once none of its calls is out
-abbrev pub unshown : Client → ℕ
-unshown x = if nat_eq x.calls_out 0 then 0 else x.answered
-
--- how many bytes of replies are held for it: to be sent, and to be shown
-abbrev pub reply_bytes : Client → ℕ
-reply_bytes x = length (bytes_of x.conn.unsent) + unshown x
 
 -- a command of it may begin where so many bytes of replies are its share: none of its calls waits for a server, and less is held
 abbrev pub MayBegin : ℕ → Client → Type 0
@@ -28,14 +21,6 @@ ClientIsQuiet x = (x.waiting ≡ 0) × (x.calls_out ≡ 0) × (x.settled ≡ 0) 
 -- how many bytes of what it sent the core holds at most, when one of its commands went on or began: one that begins is the end of a message, behind which stands only what came last
 abbrev pub input_left : Client → ℕ
 input_left x = if nat_eq x.settled 0 then min x.input x.fed else x.input
-
--- how many bytes are held for it, so far as they can be counted: of what it sent, and of replies; of one that is broken off none
-abbrev pub held_for : Client → ℕ
-held_for x = if x.is_broken then 0 else min (length x.conn.held.items + reply_bytes x + x.input) (2 ^ 64 - 1)
-
-abbrev pub held_of : Option Client → ℕ
-held_of None = 0
-held_of (Some x) = held_for x
 
 abbrev pub held_at : Clients → ℕ → ℕ
 held_at clients id = held_of (client_of clients id)

@@ -1,5 +1,9 @@
 pub mod Agrees
+pub mod Held
 pub mod Holdings
 pub mod Lending
 pub mod Marks
+pub mod Notes
+pub mod Places
+pub mod Row
 pub mod Waits

@@ -2,16 +2,18 @@
 
 ghost use Rattle.std.specs.Prelude.{◌≡◌, ◌≢◌, ◌↔◌, IsTrue, ℕ, ◌+◌, ◌-◌, ◌<◌, ◌++◌, ◌∷◌, [], OnOk, OnErr, Some, None, if◌then◌else◌, true, false, length, min, nat_lt, filter, slice_get, slice_set};
 ghost use Rattle.std.specs.Option.{option_map, option_flatten, option_copied_mut};
+ghost use Rattle.std.specs.List.{sum_by};
 ghost use Rattle.std.specs.Borrow.{sem};
 ghost use Rattle.wire_parts.specs.Sending.{bytes_of};
 ghost use Rattle.serve_clients.specs.Marks.{client_of, Changes, AreAlike, EndsBusy, ids_with, ids_if, client_is_idle, is_marked, HasMarked, AreListed, with_ready, with_unsent, with_busy, ready_if, unsent_if, with_told, noted, will_send, one_settled, one_got, one_answered, one_waits, one_waited};
 ghost use Rattle.serve_clients.specs.Agrees.{Breaks, KeepsEnds};
 ghost use Rattle.serve_clients.specs.Lending.{LendsClient};
 ghost use Rattle.serve_clients.specs.Waits.{waits_a_turn};
-ghost use Rattle.serve_clients.specs.Holdings.{unshown, reply_bytes, input_left, held_for, held_at, MayBegin, MayGoOn, ClientIsQuiet};
+ghost use Rattle.serve_clients.specs.Holdings.{unshown, reply_bytes, input_left, held_for, held_of, held_at, MayBegin, MayGoOn, ClientIsQuiet};
 ghost use Rattle.serve_clients.specs.declared.clients.TheConstants.{HELD_BACK, INPUT};
 
 use crate::departures::Departure;
+use crate::places::Places;
 use serve_wire::Ready;
 use serve_wire::conn::{Conn, Limits};
 use std::alloc::{AllocError, Global};
@@ -511,22 +513,24 @@ fn note_at(place: &mut Option<Client>, told: Ready) -> bool
 }
 
 // There are places up to this one at least, and nobody stands at a new one.
-fn make_place(all: &mut Vec<Option<Client>>, id: usize) -> Result<(), AllocError>
+fn make_place(all: &mut Places, id: usize) -> Result<(), AllocError>
     ensures there { OnOk result (id < length all.new.items) }
     ensures same { (other : ℕ) → option_flatten (slice_get all.new.items other) ≡ option_flatten (slice_get all.old.items other) }
 {
     for _ in all.len()..=id {
-        all.push(None)?;
+        all.push_none()?;
     }
     Ok(())
 }
 
 // The client stands at this place.
-fn put_at(all: &mut Vec<Option<Client>>, id: usize, client: Client)
+fn put_at(all: &mut Places, id: usize, client: Client)
     requires { id < length all.old.items }
     ensures { all.new.items ≡ slice_set all.old.items id (Some client) }
 {
-    all[id] = Some(client);
+    if let Some(place) = all.get_mut(id) {
+        *place = Some(client);
+    }
 }
 
 // Nobody stands at this place any more: the number of the connection of who stood there.
@@ -578,8 +582,8 @@ fn list_if_marked(place: &Option<Client>, mark: Marking, ids: &mut Vec<usize>, i
 }
 
 // These are all that are marked so from now on, or some of them where memory is refused: whether they are all.
-fn list_marked(all: &Vec<Option<Client>>, mark: Marking, ids: &mut Vec<usize>) -> bool
-    ensures { result ≡ true → HasMarked mark all.now.items ids.new.items }
+fn list_marked(all: &[Option<Client>], mark: Marking, ids: &mut Vec<usize>) -> bool
+    ensures { result ≡ true → HasMarked mark all.now ids.new.items }
 {
     ids.clear();
     for id in 0..all.len() {
@@ -594,7 +598,7 @@ fn list_marked(all: &Vec<Option<Client>>, mark: Marking, ids: &mut Vec<usize>) -
 /// waits. Where memory is refused for a list, [`is_short`](Clients::is_short) tells that one may be missing.
 #[derive(Drop)]
 pub struct Clients {
-    all: Vec<Option<Client>>,
+    all: Places,
     pub ready: Vec<usize>,
     pub with_output: Vec<usize>,
     pub busy: Vec<usize>,
@@ -608,7 +612,7 @@ impl Clients {
         ensures none { result.all.items ≡ [] }
     {
         Clients {
-            all: Vec::new(alloc),
+            all: Places::new(alloc),
             ready: Vec::new(alloc),
             with_output: Vec::new(alloc),
             busy: Vec::new(alloc),
@@ -625,7 +629,7 @@ impl Clients {
 
     /// How many clients there are.
     pub fn count(&self) -> usize {
-        self.all.iter().flatten().count()
+        self.all.as_slice().iter().flatten().count()
     }
 
     /// The client of this id. It stays as the borrower leaves it, and all else stays as it is.
@@ -740,7 +744,7 @@ impl Clients {
     fn is_idle(&self, id: usize) -> bool
         ensures { result ≡ client_is_idle (client_of self.now id) }
     {
-        match self.all.get(id) {
+        match self.all.as_slice().get(id) {
             Some(Some(client)) => !client.is_ready,
             _ => false,
         }
@@ -767,9 +771,9 @@ impl Clients {
         if !self.is_short {
             return;
         }
-        let are_ready = list_marked(&self.all, Marking::Ready, &mut self.ready);
-        let are_unsent = list_marked(&self.all, Marking::Unsent, &mut self.with_output);
-        let are_busy = list_marked(&self.all, Marking::Busy, &mut self.busy);
+        let are_ready = list_marked(self.all.as_slice(), Marking::Ready, &mut self.ready);
+        let are_unsent = list_marked(self.all.as_slice(), Marking::Unsent, &mut self.with_output);
+        let are_busy = list_marked(self.all.as_slice(), Marking::Busy, &mut self.busy);
         self.is_short = !(are_ready && are_unsent && are_busy);
     }
 
@@ -846,15 +850,23 @@ impl Clients {
     pub fn held(&self, id: usize) -> usize
         ensures { result ≡ held_at self.now id }
     {
-        match self.all.get(id) {
+        match self.all.as_slice().get(id) {
             Some(Some(client)) => client.held(),
             _ => 0,
         }
     }
 
+    /// Whether more bytes than these are held for all clients together. Only those that were lent since that was asked last are looked at.
+    pub fn hold_more(&mut self, most: usize) -> bool
+        ensures more { IsTrue result ↔ (most < sum_by held_of self.old.all.items) }
+        ensures same { self.new ≡ self.old }
+    {
+        self.all.held() > most as u128
+    }
+
     /// Why the client of this id goes, now that it is gone; whether the core has closed it.
     pub fn departure(&self, id: usize, is_closed: bool) -> Departure {
-        match self.all.get(id) {
+        match self.all.as_slice().get(id) {
             Some(Some(client)) => client.departure(is_closed),
             _ => Departure::Ended,
         }
@@ -863,7 +875,7 @@ impl Clients {
     /// How many bytes the answer to the next get of the client of this id is expected to take: much where calls of it are out and none of its gets was
     /// answered yet, and nothing is known where it is its first call.
     pub fn expects(&self, id: usize) -> Option<usize> {
-        match self.all.get(id) {
+        match self.all.as_slice().get(id) {
             Some(Some(client)) => client.expects(),
             _ => None,
         }

@@ -11,6 +11,7 @@
 
 mod clients;
 mod departures;
+mod places;
 
 pub use clients::{Client, Clients, SHARE};
 pub use departures::{DEPARTURES, Departure, Departures};

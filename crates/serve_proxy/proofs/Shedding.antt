@@ -1,5 +1,5 @@
 -- How many clients there are for which something is held, and that they become fewer.
-use Rattle.std.proofs.Common.{◌≡◌, ◌≢◌, ◌⊎◌, inl, inr, ℕ, zero, suc, ◌+◌, ◌-◌, ◌<◌, ◌≤◌, Bool, true, false, List, [], ◌∷◌, length, length-set, drop, Option, Some, None, refl, sym, ap, ◌∙◌, subst, add-one, arith}
+use Rattle.std.proofs.Common.{◌≡◌, ◌≢◌, ◌⊎◌, inl, inr, ℕ, zero, suc, ◌+◌, ◌-◌, ◌<◌, ◌≤◌, Bool, true, false, List, [], ◌∷◌, length, length-set, Option, Some, None, refl, sym, ap, ◌∙◌, subst, arith}
 use Rattle.std.proofs.lemmas.Bool.{cases_eq}
 use Rattle.std.proofs.lemmas.List.Sums.{sum_by-cons}
 use Rattle.std.specs.Prelude.{IsTrue, ◌↔◌, min, slice_get}
@@ -49,22 +49,6 @@ none_there f (x ∷ xs) none =
     let here : f x ≡ 0 = none 0 in
     let rest : sum_by f xs ≡ 0 = none_there f xs (λ k. none (suc k)) in
     omega (arith, here, rest, sum_by-cons f x xs)
-
--- what is held for those from this place on is what is held for the first, and for those after it
-held_after : (all : List (Option Client)) (i : ℕ) → i < length all → sum_by held_of (drop i all) ≡ held_of (option_flatten (slice_get all i)) + sum_by held_of (drop (suc i) all)
-held_after [] i within = absurd (omega arith)
-held_after (x ∷ all) zero within = let here : sum_by held_of (x ∷ all) ≡ held_of x + sum_by held_of all = sum_by-cons held_of x all in here
-held_after (x ∷ all) (suc i) within = held_after all i (omega arith)
-
-pub held_from : (all : List (Option Client)) (i : ℕ) → i < length all → sum_by held_of (drop i all) ≡ held_of (option_flatten (slice_get all i)) + sum_by held_of (drop (i + 1) all)
-held_from all i within = rw add-one (held_after all i within)
-
--- and past the last it is nothing
-pub held_past : (all : List (Option Client)) (i : ℕ) → length all ≤ i → sum_by held_of (drop i all) ≡ 0
-held_past [] zero past = refl
-held_past [] (suc i) past = refl
-held_past (x ∷ all) zero past = absurd (omega arith)
-held_past (x ∷ all) (suc i) past = held_past all i (omega arith)
 
 -- where it isn't so that more is held, no more is
 pub no_more : (more : Bool) (most all : ℕ) → (IsTrue more ↔ (most < all)) → more ≡ false → all ≤ most

@@ -12,7 +12,7 @@ use crate::clock::earlier;
 use crate::sending::write_client;
 use crate::sockets::Sockets;
 use core_accepted::ServedCore;
-use serve_clients::{Client, Clients, Departure};
+use serve_clients::{Client, Departure};
 use serve_wire::Wire;
 use std::alloc::{AllocError, Global};
 
@@ -256,21 +256,6 @@ fn shed<W: Wire>(core: &ServedCore, sockets: &mut Sockets<W>, most: usize)
     }
 }
 
-// Whether more bytes than these are held for all clients together.
-fn hold_more(clients: &Clients, most: usize) -> bool
-    ensures { IsTrue result ↔ (most < held_by_all clients.now) }
-{
-    let mut left = most;
-    for id in 0..clients.len() {
-        let held = clients.held(id);
-        if held > left {
-            return true;
-        }
-        left -= held;
-    }
-    false
-}
-
 // The client for which most is held is broken off.
 fn shed_one<W: Wire>(core: &ServedCore, sockets: &mut Sockets<W>)
     ensures ends { AllGoOn W.history core.now sockets.old core.now sockets.new }
@@ -344,7 +329,7 @@ impl<W: Wire> Sockets<W> {
         ensures bounded { result ≡ false → held_by_all self.old.clients ≤ most }
         ensures clients { self.new.clients ≡ self.old.clients }
     {
-        let is_more = hold_more(&self.clients, most);
+        let is_more = self.clients.hold_more(most);
         self.stalls.was_short() || is_more
     }
 
