@@ -194,7 +194,7 @@ fn drop_config(_config: Config) {}
 fn resolve(rt: &HostRuntime, proxy: &mut Proxy, servers: &Servers) {
     for at in 0..servers.len() {
         if let Some(text) = text_at(servers, at) {
-            let _ = proxy.resolve(rt, text);
+            let _ = proxy.sockets.resolve(rt, text);
         }
     }
 }
@@ -206,7 +206,7 @@ fn load(
     config: Config,
     servers: &Servers,
 ) -> Result<String, Fail> {
-    let usual = proxy.usual_limits();
+    let usual = proxy.sockets.usual_limits();
     match proxy.load(config, servers, usual, &Value::Null) {
         Ok(number) => Ok(number.to_string(alloc)?),
         Err(_) => Ok("refused".to_string(alloc)?),
@@ -347,7 +347,7 @@ impl<'a> TurnedEnds<'a> {
             return Ok(wire.listens_at()?);
         }
         if let Some(proxy) = self.proxies.last() {
-            return Ok(proxy.wire().local_addr()?);
+            return Ok(proxy.sockets.wire.local_addr()?);
         }
         self.cache_address(0)
     }
@@ -921,7 +921,7 @@ impl<'a> TurnedEnds<'a> {
     // The last proxy empties the server before its first call.
     fn empty_first(&mut self, server: usize) {
         if let Some(proxy) = last_of(&mut self.proxies) {
-            proxy.empty_first(server);
+            proxy.sockets.empty_first(server);
         }
     }
 
@@ -929,15 +929,15 @@ impl<'a> TurnedEnds<'a> {
     fn limit(&mut self, server: usize) -> Result<(), Fail> {
         let said = limited(self.rt.alloc(), &self.servers()?, server)?;
         if let Some(proxy) = last_of(&mut self.proxies) {
-            let usual = proxy.usual_limits();
-            proxy.limit(usual, &said);
+            let usual = proxy.sockets.usual_limits();
+            proxy.sockets.limit(usual, &said);
         }
         Ok(())
     }
 
     fn next_news(&mut self) -> Option<(usize, LinkNews)> {
         match last_of(&mut self.proxies) {
-            Some(proxy) => proxy.next_news(),
+            Some(proxy) => proxy.sockets.next_news(),
             None => None,
         }
     }

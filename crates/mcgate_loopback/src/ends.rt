@@ -115,7 +115,7 @@ fn begun(flushes_new: bool) -> Beginnings {
 // Servers behind the first so many are emptied before their first call: each has its link from the beginning, also where a reload brings it.
 fn empty_new(proxy: &mut ProxyEnd<Sockets>, first: usize, servers: usize) {
     for at in first..servers {
-        proxy.empty_first(at);
+        proxy.sockets.empty_first(at);
     }
 }
 
@@ -175,11 +175,11 @@ impl Loop {
             &addresses,
             settings(),
         )?;
-        proxy.poll_in_rounds();
+        proxy.sockets.poll_in_rounds();
         if flushes_new {
             empty_new(&mut proxy, first, addresses.len());
         }
-        let listens = proxy.wire().local_addr()?;
+        let listens = proxy.sockets.wire.local_addr()?;
         let address = format!(in alloc; "{listens}")?;
         let wire = far_wire(rt, address.as_str())?;
         Loop::of(alloc, proxy, address, wire, servers, most)
@@ -255,7 +255,7 @@ impl Loop {
         let addresses = self.servers.addresses()?;
         let config = config.copy(self.alloc)?;
         // A script's servers have no limits of their own.
-        let usual = self.proxy.usual_limits();
+        let usual = self.proxy.sockets.usual_limits();
         match self.proxy.load(config, &addresses, usual, &Value::Null) {
             Ok(generation) => {
                 self.generation = generation;
@@ -370,7 +370,7 @@ impl Loop {
             Some(client) => client.has_sent_all(),
             None => true,
         };
-        is_sent && self.proxy.tally().read == self.sent
+        is_sent && self.proxy.sockets.tally.read == self.sent
     }
 
     fn fed_client(&mut self, fed: Option<usize>) -> Option<&mut ClientEnd> {
@@ -383,13 +383,13 @@ impl Loop {
     // Whether all is done that can be done without a result, and the clients have got all that there is for them.
     fn is_still(&mut self, fed: Option<usize>) -> bool {
         self.is_read(fed)
-            && self.proxy.tally().shown == self.received
+            && self.proxy.sockets.tally.shown == self.received
             && self.proxy.is_still(self.servers.asked())
     }
 
     // How much was done so far: it grows with each step.
     fn moved(&self) -> u64 {
-        let tally = self.proxy.tally();
+        let tally = self.proxy.sockets.tally;
         self.sent
             .saturating_add(self.received)
             .saturating_add(tally.read)
@@ -444,7 +444,7 @@ impl Loop {
             None => false,
         };
         if is_ended {
-            self.sent = self.proxy.tally().read;
+            self.sent = self.proxy.sockets.tally.read;
         }
     }
 }

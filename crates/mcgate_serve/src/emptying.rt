@@ -99,7 +99,7 @@ fn is_due<W: Wire>(end: &ProxyEnd<W>, servers: &Servers, name: &str) -> bool {
     let Some(server) = servers.find(name) else {
         return true;
     };
-    match end.link(server.number() as usize) {
+    match end.sockets.link(server.number() as usize) {
         Some(link) => link.flushes,
         None => true,
     }

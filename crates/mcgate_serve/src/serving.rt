@@ -372,7 +372,7 @@ impl<W: Listens> Serving<W> {
     {
         match Value::from_str(alloc, self.text.as_str()) {
             Ok(said) => {
-                self.end.limit(job.settings.link_limits(), &said);
+                self.end.sockets.limit(job.settings.link_limits(), &said);
                 Ok(())
             }
             Err(_) => Err(Stop::Memory),
@@ -402,7 +402,7 @@ impl<W: Listens> Serving<W> {
     {
         let servers = self.servers.len();
         let generation = self.generation.saturating_add(self.before);
-        let address = self.end.wire().listens_at();
+        let address = self.end.sockets.wire.listens_at();
         tell_serving(rt, &mut self.lines, job, address, servers, generation);
     }
 
@@ -413,7 +413,7 @@ impl<W: Listens> Serving<W> {
         let Some(watching) = &self.watching else {
             return Ok(());
         };
-        self.end.wire().wake_up_by(watching.descriptor())?;
+        self.end.sockets.wire.wake_up_by(watching.descriptor())?;
         let address = watching.local_addr()?;
         tell_metrics(rt, &mut self.lines, address);
         Ok(())
@@ -426,7 +426,7 @@ impl<W: Listens> Serving<W> {
         let Some(controlling) = &self.controlling else {
             return Ok(());
         };
-        self.end.wire().wake_up_by(controlling.descriptor())?;
+        self.end.sockets.wire.wake_up_by(controlling.descriptor())?;
         tell_control(rt, &mut self.lines, controlling.path());
         Ok(())
     }
@@ -444,7 +444,7 @@ impl<W: Listens> Serving<W> {
         }
         match InputEnd::watch(rt) {
             Ok(input) => {
-                self.end.wire().wake_up_by(input.descriptor())?;
+                self.end.sockets.wire.wake_up_by(input.descriptor())?;
                 self.input = Some(input);
                 Ok(())
             }
@@ -459,7 +459,7 @@ impl<W: Listens> Serving<W> {
     fn turn_watching<R: Files + Clock + AllocGlobal>(&mut self, rt: &R)
         ensures { self.new.end ≡ self.old.end }
     {
-        let is_woken = self.end.wire().is_woken();
+        let is_woken = self.end.sockets.wire.is_woken();
         let lost_lines = self.lines.lost();
         if let Some(watching) = &mut self.watching {
             if is_woken || watching.is_due(rt) {
@@ -566,7 +566,7 @@ impl<W: Listens> Serving<W> {
             let Some(at) = self.next_emptying(from) else {
                 return;
             };
-            self.end.empty_first(at);
+            self.end.sockets.empty_first(at);
             from = at.saturating_add(1);
         }
     }
@@ -591,7 +591,7 @@ impl<W: Listens> Serving<W> {
             return;
         }
         self.mark_emptying();
-        self.have_begun = self.end.keep_epochs(&self.servers);
+        self.have_begun = self.end.sockets.keep_epochs(&self.servers);
     }
 
     fn millis<R: Clock>(&self, rt: &R) -> io::Result<u64> {
@@ -660,8 +660,8 @@ impl<W: Listens> Serving<W> {
     fn tell_unaccepted<R: Eprint>(&mut self, rt: &R)
         ensures { self.new.end ≡ self.old.end }
     {
-        let unaccepted = self.end.tally().unaccepted;
-        let now = self.end.wire().last_millis();
+        let unaccepted = self.end.sockets.tally.unaccepted;
+        let now = self.end.sockets.wire.last_millis();
         if let Some(count) = self.seen.next_unaccepted(unaccepted, now) {
             tell_unaccepted(rt, &mut self.lines, count);
         }
@@ -672,7 +672,7 @@ impl<W: Listens> Serving<W> {
         ensures { self.new.end ≡ self.old.end }
     {
         let refused = self.end.core_tally().refused;
-        let now = self.end.wire().last_millis();
+        let now = self.end.sockets.wire.last_millis();
         if let Some(count) = self.seen.next_refused(refused, now) {
             tell_refused(rt, &mut self.lines, count);
         }
@@ -683,7 +683,7 @@ impl<W: Listens> Serving<W> {
         ensures core { self.new.end.core ≡ self.old.end.core }
         ensures ends { Stay W.history self.old.end.sockets self.new.end.sockets }
     {
-        if let Some(count) = self.end.next_stalled() {
+        if let Some(count) = self.end.sockets.next_stalled() {
             tell_stalled(rt, &mut self.lines, count);
         }
     }
@@ -694,7 +694,7 @@ impl<W: Listens> Serving<W> {
         ensures ends { Stay W.history self.old.end.sockets self.new.end.sockets }
     {
         for _ in 0..self.servers.len() {
-            let Some((at, news)) = self.end.next_news() else {
+            let Some((at, news)) = self.end.sockets.next_news() else {
                 return;
             };
             self.tell_of(rt, at, news);
@@ -723,7 +723,7 @@ impl<W: Listens> Serving<W> {
 
     // Whether the server of this number is still to be emptied before its first call.
     fn flushes(&self, at: usize) -> bool {
-        match self.end.link(at) {
+        match self.end.sockets.link(at) {
             Some(link) => link.flushes,
             None => false,
         }
@@ -755,7 +755,7 @@ impl<W: Listens> Serving<W> {
     fn note_news(&mut self, at: usize, news: LinkNews)
         ensures { self.new.end ≡ self.old.end }
     {
-        let now = self.end.wire().last_millis();
+        let now = self.end.sockets.wire.last_millis();
         self.seen.note_news(at, news, now);
         match news {
             LinkNews::Failed(_, _) => self.names.note_failed(at),
@@ -765,7 +765,7 @@ impl<W: Listens> Serving<W> {
 
     // Whether calls may go by this server's name: it has a connection, or never had one, or its connection has just failed.
     fn goes_by_name(&self, at: usize) -> bool {
-        match self.end.link(at) {
+        match self.end.sockets.link(at) {
             Some(link) => {
                 link.conn.is_some() || link.tally.stood == 0 || self.names.has_failed(at)
             }
@@ -785,7 +785,7 @@ impl<W: Listens> Serving<W> {
         ensures memory { self.new.memory ≡ self.old.memory }
         ensures in_use { self.new.in_use ≡ self.old.in_use }
     {
-        let now = self.end.wire().last_millis();
+        let now = self.end.sockets.wire.last_millis();
         match self.names.next_due(&self.servers, now, job.resolve_s) {
             Some(at) => self.look_if_called(rt, job, at, now),
             None => {}
@@ -837,7 +837,7 @@ impl<W: Listens> Serving<W> {
     // Where its name leads now.
     fn lead_of<R: Net>(&self, rt: &R, at: usize) -> io::Result<Lead> {
         match text_at(&self.servers, at) {
-            Some(text) => self.end.look_again(rt, text),
+            Some(text) => self.end.sockets.look_again(rt, text),
             None => Err(io::Error::from(ErrorKind::NotFound)),
         }
     }
@@ -948,7 +948,7 @@ impl<W: Listens> Serving<W> {
         if !self.notes_moved(rt, at, now) {
             return;
         }
-        self.end.empty_first(at);
+        self.end.sockets.empty_first(at);
         self.move_to(rt, at, NameNews::Moved)
     }
 
@@ -972,7 +972,7 @@ impl<W: Listens> Serving<W> {
 
     // Whether its connection was asked something first that isn't answered yet.
     fn is_asked_first(&self, at: usize) -> bool {
-        match self.end.link(at) {
+        match self.end.sockets.link(at) {
             Some(link) => link.conn.is_some() && link.awaits_greeting(),
             None => false,
         }
@@ -1003,7 +1003,7 @@ impl<W: Listens> Serving<W> {
     {
         match text_at(&self.servers, at) {
             Some(text) => {
-                if self.end.resolve(rt, text).is_ok() {
+                if self.end.sockets.resolve(rt, text).is_ok() {
                     self.seen.note_found(rt.alloc(), text, true);
                     tell_name(rt, &mut self.lines, text, news);
                 }
@@ -1216,7 +1216,7 @@ impl<W: Listens> Serving<W> {
     fn has_input_ended<R: Input>(&mut self, rt: &R) -> bool
         ensures { self.new.end ≡ self.old.end }
     {
-        let is_woken = self.end.wire().is_woken();
+        let is_woken = self.end.sockets.wire.is_woken();
         match &mut self.input {
             Some(input) if is_woken => input.has_ended(rt),
             _ => false,
@@ -1245,7 +1245,7 @@ impl<W: Listens> Serving<W> {
     fn turn_controlling<R: Clock>(&mut self, rt: &R)
         ensures { self.new.end ≡ self.old.end }
     {
-        let is_woken = self.end.wire().is_woken();
+        let is_woken = self.end.sockets.wire.is_woken();
         if let Some(controlling) = &mut self.controlling {
             controlling.turn(rt, is_woken);
         }
@@ -1369,9 +1369,9 @@ impl<W: Listens> Serving<W> {
         ensures core { self.new.end.core ≡ self.old.end.core }
         ensures ends { Stay W.history self.old.end.sockets self.new.end.sockets }
     {
-        let clients = self.end.clients();
+        let clients = self.end.sockets.clients.count();
         tell_draining(rt, &mut self.lines, clients);
-        self.end.stop_accepting();
+        self.end.sockets.stop_accepting();
     }
 
     // Whether it drains, and all clients are gone or its time is up. While it drains, clients go of which nothing is under way.
@@ -1383,7 +1383,7 @@ impl<W: Listens> Serving<W> {
             return Ok(false);
         };
         let rest = draining.rest(rt)?;
-        if rest == 0 || self.end.clients() == 0 {
+        if rest == 0 || self.end.sockets.clients.count() == 0 {
             return Ok(true);
         }
         self.end.end_quiet();
@@ -1394,7 +1394,7 @@ impl<W: Listens> Serving<W> {
     fn end_controlling<R: Files + AllocGlobal + Eprint>(&mut self, rt: &R)
         ensures { self.new.end ≡ self.old.end }
     {
-        let clients = self.end.clients();
+        let clients = self.end.sockets.clients.count();
         self.tell_drained(rt, clients);
         if let Some(controlling) = &mut self.controlling {
             if clients == 0 {
@@ -1736,7 +1736,7 @@ impl<W: Listens> Serving<W> {
         ensures memory { self.new.memory ≡ self.old.memory }
         ensures in_use { self.new.in_use ≡ self.old.in_use }
     {
-        let found = self.end.resolve(rt, text);
+        let found = self.end.sockets.resolve(rt, text);
         let is_found = tell_if_unknown(rt, &mut self.lines, text, found)?;
         self.seen.note_found(rt.alloc(), text, is_found);
         Ok(())

@@ -84,10 +84,10 @@ fn clients_of<W: Wire>(end: &ProxyEnd<W>) -> ClientNumbers
     ensures refused { result.refused ≡ end.now.core.value.tally.refused }
     ensures bad_messages { result.bad_messages ≡ end.now.core.value.tally.bad_messages }
 {
-    let tally = end.tally();
+    let tally = end.sockets.tally;
     let of_core = end.core_tally();
     ClientNumbers {
-        connected: end.clients() as u64,
+        connected: end.sockets.clients.count() as u64,
         accepted: of_core.opened,
         refused: of_core.refused,
         bad_messages: of_core.bad_messages,
@@ -102,7 +102,7 @@ fn departures_of<W: Wire>(
     alloc: Global,
     end: &ProxyEnd<W>,
 ) -> Result<Vec<CauseNumbers>, AllocError> {
-    let gone = end.tally().gone;
+    let gone = end.sockets.tally.gone;
     let mut departures = Vec::new(alloc);
     for why in DEPARTURES {
         departures.push(CauseNumbers {
@@ -207,7 +207,7 @@ fn spans_of(alloc: Global, counts: &[u64]) -> Result<Vec<SpanNumbers>, AllocErro
 
 // How long commands took that have ended.
 fn command_times_of<W: Wire>(alloc: Global, end: &ProxyEnd<W>) -> Result<CommandTimes, AllocError> {
-    let times = end.command_times();
+    let times = end.sockets.command_times();
     Ok(CommandTimes {
         ended: times.answered,
         micros: times.micros,
@@ -263,7 +263,7 @@ fn server_of<W: Wire>(
         is_up: link.is_connected && !link.is_late(),
         is_late: link.is_late(),
         is_unknown,
-        fails_at_once: is_unknown || link.is_held_back(end.wire().last_millis()),
+        fails_at_once: is_unknown || link.is_held_back(end.sockets.wire.last_millis()),
         connections: link.tally.stood,
         calls_out: link.calls.len() as u64,
         failures: failures_by_cause(alloc, link)?,
@@ -292,7 +292,7 @@ fn add_server<W: Wire>(
     let Some(text) = text_at(servers, server) else {
         return Ok(());
     };
-    let Some(link) = end.link(server) else {
+    let Some(link) = end.sockets.link(server) else {
         return Ok(());
     };
     told.push(server_of(alloc, end, seen, server, text, link)?)?;
@@ -438,9 +438,9 @@ pub fn write_servers<O: Write, W: Wire>(
     seen: &Seen,
     out: &mut O,
 ) -> io::Result<()> {
-    let now = end.wire().last_millis();
+    let now = end.sockets.wire.last_millis();
     for server in 0..servers.len() {
-        let (Some(link), Some(text)) = (end.link(server), text_at(servers, server)) else {
+        let (Some(link), Some(text)) = (end.sockets.link(server), text_at(servers, server)) else {
             return Ok(());
         };
         write_server(link, text, seen.is_unknown(text), out)?;

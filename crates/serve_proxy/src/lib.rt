@@ -1,7 +1,8 @@
 //! The proxy over a wire, in one thread: clients on one side and servers on the other, and between them a core, on configurations
 //! that the gate accepted or on unchecked ones. An end has two parts: the core, which has the commands and knows of no socket, and
-//! the sockets, which know nothing of the core. What does something to both is a function of both. The wire is any `serve_wire::Wire`:
-//! real sockets, or one in memory.
+//! the sockets, which know nothing of the core. What does something to both is a function of both; what whoever runs an end tells the
+//! sockets alone, and asks of them, is a method of `Sockets` (`operating.rt`). The wire is any `serve_wire::Wire`: real sockets, or one in
+//! memory.
 //!
 //! The way of the data in a turn, whose stages stand in `proxy.rt`:
 //!
@@ -35,6 +36,7 @@ mod failing;
 pub mod laws;
 mod limiting;
 mod links;
+mod operating;
 mod proxy;
 mod rooms;
 mod sending;
@@ -52,4 +54,5 @@ pub use serve_clients::{DEPARTURES, Departure};
 pub use serve_links::{
     CallTally, Cause, LinkLimits, LinkNews, ServerDialect, Settings, Tally, VersionText,
 };
+pub use sockets::Sockets;
 pub use texts::text_at;

@@ -1,24 +1,20 @@
 //! The proxy's end, and its turns: what is ready is read, what was asked goes to the links and what was answered to the
 //! clients, and then each end that has something to send is written once.
 
-ghost use Rattle.std.specs.Prelude.{◌≡◌, ◌↔◌, ◌≤◌, [], ◌∷◌, ◌++◌, drop, length, true, IsTrue, IfOk, IfErr, OnOk, OnErr};
+ghost use Rattle.std.specs.Prelude.{◌≡◌, ◌↔◌, ◌≤◌, [], IsTrue, IfOk, IfErr, OnOk, OnErr};
 ghost use Rattle.core_accepted.specs.Loading.{IsLoaded};
 ghost use Rattle.serde_json.specs.View.{view};
-ghost use Rattle.serve_wire.specs.Events.{looks_up};
 ghost use Rattle.serve_links.specs.CoreSteps.{GoesOn, OnlyFails};
-ghost use Rattle.serve_links.specs.Lateness.{usual_limits};
 ghost use Rattle.serve_links.specs.Links.{IsDownAt, IsClosedAt};
-ghost use Rattle.serve_links.specs.Story.{Agrees, texts_of, servers_of};
-ghost use Rattle.serve_proxy.specs.Ends.{Stay, StayButLimits, end_of, AllGoOn, AllDrop, AllLoad, HasNoConns};
+ghost use Rattle.serve_links.specs.Story.{Agrees, texts_of};
+ghost use Rattle.serve_proxy.specs.Ends.{Stay, end_of, AllGoOn, AllDrop, AllLoad, HasNoConns};
 ghost use Rattle.core_accepted.specs.Logs.{TreesAreSound, CountsBegun};
 ghost use Rattle.serve_proxy.specs.LogsGoOn.{LogsAreFresh};
 ghost use Rattle.serve_proxy.specs.Stalls.{held_by_all};
 ghost use Rattle.serve_proxy.specs.Stillness.{EndIsStill};
 ghost use Rattle.serve_proxy.specs.Beginning.{BeginsFresh, BeginsUnchecked};
 ghost use Rattle.serve_proxy.specs.Bringing.{BeginWith, RefusesBoth};
-ghost use Rattle.serve_proxy.specs.Emptying.{EmptiesAt};
-ghost use Rattle.serve_proxy.specs.Limiting.{value_limits, AreLimited};
-ghost use Rattle.serve_proxy.specs.Epochs.{EpochsAreInTurn};
+ghost use Rattle.serve_proxy.specs.Limiting.{value_limits};
 
 use crate::accepting::accept_ready;
 use crate::answers::read_links;
@@ -39,8 +35,8 @@ use route_json::Config;
 use route_json::addresses::Servers;
 use route_tree::Tree;
 use serde_json::Value;
-use serve_links::{CallTally, Cause, Link, LinkLimits, LinkNews, Settings, Tally};
-use serve_wire::{Lead, Wire};
+use serve_links::{Cause, LinkLimits, Settings};
+use serve_wire::Wire;
 use std::alloc::{AllocError, Global};
 use std::io;
 use std::net::Net;
@@ -52,7 +48,8 @@ use std::time::Duration;
 pub struct ProxyEnd<W: Wire> {
     // On the heap, so that whoever owns an end drops it by one call.
     core: Box<ServedCore>,
-    sockets: Sockets<W>,
+    /// All but the core: what whoever runs it tells the wire, the clients' ends and the links, and asks of them, is a matter of these alone.
+    pub sockets: Sockets<W>,
     // How many bytes are held for all clients after a turn at most. Each one's share is a part of that.
     most: usize,
 }
@@ -147,29 +144,6 @@ impl<W: Wire> ProxyEnd<W> {
         }
     }
 
-    /// What it stands on.
-    pub fn wire(&self) -> &W
-        ensures { result.now ≡ self.now.sockets.wire }
-    {
-        &self.sockets.wire
-    }
-
-    /// Looks up the address in a server's name. Connections to it that are begun from now on go there.
-    pub fn resolve<N: Net>(&mut self, net: &N, text: &str) -> io::Result<()>
-        ensures core { self.new.core ≡ self.old.core }
-        ensures looked { W.history self.new.sockets.wire ≡ looks_up text.now ∷ W.history self.old.sockets.wire }
-        ensures links { self.new.sockets.links ≡ self.old.sockets.links }
-        ensures ends { Stay W.history self.old.sockets self.new.sockets }
-    {
-        self.sockets.wire.resolve(net, text.as_bytes())
-    }
-
-    /// Where the address in a server's name leads now, beside the machine to which connections are begun. Nothing changes by that. An error comes
-    /// where it leads nowhere.
-    pub fn look_again<N: Net>(&self, net: &N, text: &str) -> io::Result<Lead> {
-        self.sockets.wire.look_again(net, text.as_bytes())
-    }
-
     /// Commands that begin from now on run by this configuration's tree, and those that are under way end on the trees on which they
     /// began. It gives the number of the generation. `servers` are all its servers: those in use first, by the names that they have.
     ///
@@ -207,68 +181,14 @@ impl<W: Wire> ProxyEnd<W> {
         }
     }
 
-    /// The server of this number is emptied, by `flush_all`, before its first call.
-    pub fn empty_first(&mut self, server: usize)
-        ensures emptied { EmptiesAt server self.old.sockets.links.all.items self.new.sockets.links.all.items }
-        ensures core { self.new.core ≡ self.old.core }
-        ensures ends { Stay W.history self.old.sockets self.new.sockets }
-    {
-        self.sockets.links.empty_first(server);
-    }
-
-    /// Each server has the limits that the value of a configuration says of it, and these where it says none, from now on.
-    pub fn limit(&mut self, usual: LinkLimits, said: &Value)
-        ensures limited { AreLimited (value_limits usual (view said.now)) (servers_of self.new.sockets.links.all.items) }
-        ensures core { self.new.core ≡ self.old.core }
-        ensures ends { StayButLimits W.history self.old.sockets self.new.sockets }
-    {
-        self.sockets.links.limit(usual, said);
-    }
-
-    /// The limits of a server of which nothing is said.
-    pub fn usual_limits(&self) -> LinkLimits
-        ensures { result ≡ usual_limits self.now.sockets.links.settings }
-    {
-        self.sockets.links.settings.link_limits()
-    }
-
-    /// Where servers have epochs: calls go to a server while no later one has its address, and once the earlier ones there have no calls any more; all others fail at once.
-    /// Whether none is waited for. It is asked after a load, and after each turn until it says so.
-    pub fn keep_epochs(&mut self, servers: &Servers) -> bool
-        ensures turns { EpochsAreInTurn servers.now self.new.sockets.links.all.items }
-        ensures core { self.new.core ≡ self.old.core }
-        ensures ends { Stay W.history self.old.sockets self.new.sockets }
-    {
-        self.sockets.links.keep_epochs(servers)
-    }
-
-    /// What happened to a server's link, and the server's number; of each server once a second at most, and of several things the
-    /// last. It is asked after each turn until there is none.
-    pub fn next_news(&mut self) -> Option<(usize, LinkNews)>
-        ensures core { self.new.core ≡ self.old.core }
-        ensures ends { Stay W.history self.old.sockets self.new.sockets }
-    {
-        self.sockets.links.next_news(self.sockets.time)
-    }
-
     /// A client is closed that takes nothing for so many milliseconds, while more than 1 MiB is to be sent to it; and where more bytes than these
     /// are held for all, the client for which most are. Without it, ten seconds and 1 GiB.
     pub fn bound_clients(&mut self, ms: u64, most: usize)
-        ensures most { self.new.most ≡ most }
-        ensures core { self.new.core ≡ self.old.core }
+        ensures rest { self.new ≡ record self.old { most = most; sockets = self.new.sockets } }
         ensures ends { Stay W.history self.old.sockets self.new.sockets }
     {
         self.most = most;
         self.sockets.stalls.bound(ms, most);
-    }
-
-    /// How many clients were closed as they took nothing for too long, or as too much was held and most for them
-    /// ([`bound_clients`](ProxyEnd::bound_clients)), since that was told last. It is told once a second at most.
-    pub fn next_stalled(&mut self) -> Option<u64>
-        ensures core { self.new.core ≡ self.old.core }
-        ensures ends { Stay W.history self.old.sockets self.new.sockets }
-    {
-        self.sockets.stalls.next_closed(self.sockets.time)
     }
 
     /// Where the gate accepted its trees, they are sound, and each log that may have led to the core is fresh, if servers began as is said. A
@@ -282,14 +202,6 @@ impl<W: Wire> ProxyEnd<W> {
         accepted_trees_are_sound(core);
     }
 
-    /// Nobody is accepted from now on, and who would connect is refused. Clients that are there stay.
-    pub fn stop_accepting(&mut self)
-        ensures core { self.new.core ≡ self.old.core }
-        ensures ends { Stay W.history self.old.sockets self.new.sockets }
-    {
-        self.sockets.wire.stop_accepting();
-    }
-
     /// Nothing more is read of clients of which nothing is under way: all that came of them is done, and all replies were sent. The next turn closes
     /// each of them. By calls of the core, loads aside, all ends go on.
     pub fn end_quiet(&mut self)
@@ -297,14 +209,6 @@ impl<W: Wire> ProxyEnd<W> {
         ensures ends { AllGoOn W.history self.old.core.value self.old.sockets self.new.core.value self.new.sockets }
     {
         end_quiet(self.core.as_mut(), &mut self.sockets)
-    }
-
-    /// From now on clients are polled in rounds, as those of a script are: each once, in the order in which they were accepted. Without it
-    /// a client is polled until it waits, and who waits for a server comes after who waited before it.
-    pub fn poll_in_rounds(&mut self)
-        ensures { self.new ≡ record self.old { sockets = record self.old.sockets { in_rounds = true } } }
-    {
-        self.sockets.in_rounds = true;
     }
 
     /// What its core has done so far: clients opened and turned away, messages refused, commands ended, in all and of each operation by their
@@ -322,30 +226,6 @@ impl<W: Wire> ProxyEnd<W> {
         ensures counted { CountsBegun self.now.core.value result }
     {
         self.core.begun()
-    }
-
-    /// What it has done so far, beside its core.
-    pub fn tally(&self) -> Tally
-        ensures { result ≡ self.now.sockets.tally }
-    {
-        self.sockets.tally
-    }
-
-    /// How long commands took that have ended, from when each began or came to the line of its key: as many as that are `answered`.
-    pub fn command_times(&self) -> CallTally
-        ensures { result ≡ self.now.sockets.times.tally }
-    {
-        self.sockets.times.tally()
-    }
-
-    /// How many clients there are.
-    pub fn clients(&self) -> usize {
-        self.sockets.clients.count()
-    }
-
-    /// The link to the server of this number.
-    pub fn link(&self, server: usize) -> Option<&Link> {
-        self.sockets.links.all.get(server)
     }
 
     /// Whether so many calls are out, and nothing is left to do until something comes.

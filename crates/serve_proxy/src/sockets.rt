@@ -20,12 +20,13 @@ use std::io;
 use std::rt::Clock;
 use std::time::Duration;
 
-/// All but the core.
+/// All that an end has but its core.
 #[derive(Drop)]
 pub struct Sockets<W: Wire> {
     pub alloc: Global,
     /// What the clock showed when it was looked at last, in milliseconds.
     pub time: u64,
+    /// What it stands on.
     pub wire: W,
     pub accepting: Accepting,
     pub clients: Clients,
@@ -37,6 +38,7 @@ pub struct Sockets<W: Wire> {
     pub is_freed: bool,
     /// Whether clients are polled in rounds.
     pub in_rounds: bool,
+    /// What it has done so far.
     pub tally: Tally,
     pub times: CommandTimes,
 }

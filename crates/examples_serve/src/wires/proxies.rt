@@ -1190,7 +1190,7 @@ fn resolve_all<W: Wire>(rt: &HostRuntime, wire: &mut W, servers: &Servers) {
 fn resolve_more(rt: &HostRuntime, proxy: &mut ProxyEnd<Memory>, servers: &Servers) {
     for at in 0..servers.len() {
         if let Some(text) = text_at(servers, at) {
-            let _ = proxy.resolve(rt, text);
+            let _ = proxy.sockets.resolve(rt, text);
         }
     }
 }
@@ -1234,7 +1234,7 @@ fn load(
     config: Config,
     servers: &Servers,
 ) -> Result<String, Fail> {
-    let usual = proxy.usual_limits();
+    let usual = proxy.sockets.usual_limits();
     match proxy.load(config, servers, usual, &Value::Null) {
         Ok(number) => Ok(number.to_string(alloc)?),
         Err(_) => Ok("refused".to_string(alloc)?),
@@ -1300,7 +1300,7 @@ impl Scripted<'_> {
     }
 
     fn next_news(&mut self) -> Result<Option<(usize, LinkNews)>, Fail> {
-        Ok(self.proxy()?.next_news())
+        Ok(self.proxy()?.sockets.next_news())
     }
 
     // What there is to tell after a turn.
@@ -1315,7 +1315,7 @@ impl Scripted<'_> {
     }
 
     fn next_stalled(&mut self) -> Result<Option<u64>, Fail> {
-        Ok(self.proxy()?.next_stalled())
+        Ok(self.proxy()?.sockets.next_stalled())
     }
 
     // How many were closed after a turn, as they took too little.
@@ -1335,7 +1335,7 @@ impl Scripted<'_> {
     // How many clients have gone for what.
     fn gone(&mut self) -> Result<String, Fail> {
         let alloc = self.rt.alloc();
-        let gone = self.proxy()?.tally().gone;
+        let gone = self.proxy()?.sockets.tally.gone;
         let mut text = String::new(alloc);
         for why in DEPARTURES {
             let count = gone.of(why);
@@ -1348,7 +1348,7 @@ impl Scripted<'_> {
 
     // How many calls of the server of this number have failed that never went out.
     fn unsent(&mut self, text: &str) -> Result<String, Fail> {
-        let count = match self.proxy()?.link(text.parse::<usize>()?) {
+        let count = match self.proxy()?.sockets.link(text.parse::<usize>()?) {
             Some(link) => link.tally.unsent,
             None => 0,
         };
@@ -1357,7 +1357,7 @@ impl Scripted<'_> {
 
     // How many calls of the server of this number were answered by an error.
     fn errors(&mut self, text: &str) -> Result<String, Fail> {
-        let count = match self.proxy()?.link(text.parse::<usize>()?) {
+        let count = match self.proxy()?.sockets.link(text.parse::<usize>()?) {
             Some(link) => link.calls.errors(),
             None => 0,
         };
@@ -1365,7 +1365,7 @@ impl Scripted<'_> {
     }
 
     fn times(&mut self) -> Result<String, Fail> {
-        let times = self.proxy()?.command_times();
+        let times = self.proxy()?.sockets.command_times();
         let mut text = format!(in self.rt.alloc(); "{} in {}:", times.answered, times.micros)?;
         for count in times.spans() {
             write!(text, " {count}")?;
@@ -1391,7 +1391,7 @@ impl Scripted<'_> {
     fn took(&mut self, text: &str) -> Result<bool, Fail> {
         let (name, text) = cut(text);
         let all = bytes_of(self.rt.alloc(), text)?;
-        Ok(self.proxy()?.wire().taken(name.parse::<u32>()?) == all.as_slice())
+        Ok(self.proxy()?.sockets.wire.taken(name.parse::<u32>()?) == all.as_slice())
     }
 }
 
@@ -1400,9 +1400,12 @@ impl Stage for Scripted<'_> {
         let alloc = self.rt.alloc();
         let (verb, text) = cut(event);
         match verb {
-            "taken" => shown(alloc, self.proxy()?.wire().taken(text.parse::<u32>()?)),
+            "taken" => shown(
+                alloc,
+                self.proxy()?.sockets.wire.taken(text.parse::<u32>()?),
+            ),
             "open" => {
-                let is_open = self.proxy()?.wire().is_open(text.parse::<u32>()?);
+                let is_open = self.proxy()?.sockets.wire.is_open(text.parse::<u32>()?);
                 Ok(yes_or_no(is_open).to_string(alloc)?)
             }
             "load" => self.load(text),

@@ -558,7 +558,7 @@ impl<'a, W: Listens + Drop> ServeLoop<'a, W> {
     /// Its wire, if it has begun.
     pub fn wire(&self) -> Option<&W> {
         match &self.serving {
-            Some(serving) => Some(serving.end().wire()),
+            Some(serving) => Some(&serving.end().sockets.wire),
             None => None,
         }
     }

@@ -7,8 +7,8 @@ use Rattle.mcgate_serve.proofs.serving.Serving.limit_servers.Goals as goal
 
 pub returns-in-Ok : goal.returns-in-Ok
 returns-in-Ok g c = record {
-  limited = limited_as c.args.job.now.settings c.link_limits.result (string_bytes c.args.self.now.text) c.as_str.result.now (view c.in-Ok.said) c.limit.new.self.sockets.links.all.items c.as_str.ensures.value c.in-Ok.ensures.ok c.link_limits.ensures c.limit.ensures.limited;
-  core = c.limit.ensures.core;
+  limited = limited_as c.args.job.now.settings c.link_limits.result (string_bytes c.args.self.now.text) c.as_str.result.now (view c.in-Ok.said) c.limit.new.self.links.all.items c.as_str.ensures.value c.in-Ok.ensures.ok c.link_limits.ensures c.limit.ensures.limited;
+  core = refl;
   ends = c.limit.ensures.ends;
 }
 

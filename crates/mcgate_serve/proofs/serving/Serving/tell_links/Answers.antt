@@ -8,8 +8,8 @@ loop-init g c = record { core = refl; ends = stay_still _ _ _ }
 
 pub loop-preserved : goal.loop-preserved
 loop-preserved g c = record {
-  core = same_box c.next_news.new.self c.tell_of.new.self.end c.tell_of.ensures ∙ c.next_news.ensures.core ∙ c.loop.invariant.core;
-  ends = stayed g.W.Wire.history c.args.self.now.end c.next_news.new.self c.tell_of.new.self.end c.tell_of.ensures (stay_then c.loop.invariant.ends c.next_news.ensures.ends);
+  core = same_box _ c.tell_of.new.self.end c.tell_of.ensures ∙ c.loop.invariant.core;
+  ends = stayed g.W.Wire.history c.args.self.now.end _ c.tell_of.new.self.end c.tell_of.ensures (stay_then c.loop.invariant.ends c.next_news.ensures.ends);
 }
 
 pub returns-in_default-clause-ends : goal.returns-in_default-clause-ends
