@@ -48,7 +48,7 @@ use std::time::Duration;
 pub struct ProxyEnd<W: Wire> {
     // On the heap, so that whoever owns an end drops it by one call.
     core: Box<ServedCore>,
-    /// All but the core: what whoever runs it tells the wire, the clients' ends and the links, and asks of them, is a matter of these alone.
+    /// All but the core. Whoever runs the end tells these what concerns no command: limits, names to look up, that nobody is accepted any more.
     pub sockets: Sockets<W>,
     // How many bytes are held for all clients after a turn at most. Each one's share is a part of that.
     most: usize,
