@@ -2,7 +2,7 @@
 use Rattle.std.proofs.Common.{◌≡◌, ◌≢◌, ◌⊎◌, inl, inr, ℕ, zero, suc, ◌+◌, ◌-◌, ◌<◌, ◌≤◌, Bool, true, false, List, [], ◌∷◌, length, length-set, Option, Some, None, refl, sym, ap, ◌∙◌, subst, arith}
 use Rattle.std.proofs.lemmas.Bool.{cases_eq}
 use Rattle.std.proofs.lemmas.List.Sums.{sum_by-cons}
-use Rattle.std.specs.Prelude.{IsTrue, ◌↔◌, min, slice_get}
+use Rattle.std.specs.Prelude.{IsTrue, ◌↔◌, min, nat_lt, slice_get}
 use Rattle.std.specs.List.{sum_by}
 use Rattle.std.specs.Option.{option_flatten, option_map}
 use Rattle.serve_clients.specs.declared.clients.Client.{Client}
@@ -54,6 +54,11 @@ none_there f (x ∷ xs) none =
 pub no_more : (more : Bool) (most all : ℕ) → (IsTrue more ↔ (most < all)) → more ≡ false → all ≤ most
 no_more true most all is fewer = absurd (cc)
 no_more false most all is fewer = grind arith
+
+-- a test of whether it is more tells it
+pub is_more : (more : Bool) (most all : ℕ) → (IsTrue more ↔ (most < all)) → more ≡ nat_lt most all
+is_more true most all is = grind arith
+is_more false most all is = grind arith
 
 -- there are at most as many as there are places
 few_there : (xs : List (Option Client)) → sum_by one_if_held xs ≤ length xs

@@ -7,7 +7,7 @@ pub mod Emptying
 pub mod Limiting
 pub mod Stalls
 pub mod Spares
-pub mod Budgets
+pub mod Shares
 pub mod Times
 pub mod Bringing
 pub mod Unsent

@@ -1,6 +1,6 @@
 //! What is noted of a client, by its id, as it is served. Nothing here knows the core.
 
-ghost use Rattle.std.specs.Prelude.{◌≡◌, true, None, IfSome, sum, slice_set};
+ghost use Rattle.std.specs.Prelude.{◌≡◌, true, None, IfSome, slice_set};
 ghost use Rattle.serve_wire.specs.Calls.{Closes};
 ghost use Rattle.serve_clients.specs.Agrees.{end_said_of};
 ghost use Rattle.serve_clients.specs.Marks.{client_of};
@@ -8,7 +8,6 @@ ghost use Rattle.serve_clients.specs.Holdings.{MayGoOn};
 ghost use Rattle.serve_proxy.specs.Stalls.{HoldAlike};
 ghost use Rattle.serve_links.specs.Shut.{client_conn};
 ghost use Rattle.serve_proxy.specs.Ends.{Stay, GoAlone, AllGoClosed};
-ghost use Rattle.serve_proxy.specs.Budgets.{share_by};
 
 use crate::sockets::{Sockets, close_if_any};
 use serve_clients::{Client, Departure};
@@ -66,9 +65,9 @@ impl<W: Wire> Sockets<W> {
     /// Whether a command of the client of this id may go on, or begin.
     pub fn may_go_on(&mut self, id: usize) -> bool
         ensures ends { Stay W.history self.old self.new }
-        ensures share { result ≡ true → IfSome (client_of self.old.clients id) (MayGoOn (share_by self.old.stalls.budget.most (sum self.old.stalls.budget.held.items) self.old.links.settings.clients)) }
+        ensures share { result ≡ true → IfSome (client_of self.old.clients id) (MayGoOn self.old.stalls.share) }
     {
-        let share = self.share();
+        let share = self.stalls.share;
         match self.clients.get_mut(id) {
             Some(client) => may_go_on(client, share, self.in_rounds),
             None => false,
@@ -77,7 +76,7 @@ impl<W: Wire> Sockets<W> {
 
     /// What the polls of the client of this id end with where none of its commands may go on or begin.
     pub fn rest_of(&self, id: usize) -> Rest {
-        if self.stalls.budget.is_scarce() && self.clients.held(id) > 0 {
+        if self.stalls.is_scarce && self.clients.held(id) > 0 {
             Rest::Busy
         } else {
             Rest::Full
@@ -108,7 +107,6 @@ impl<W: Wire> Sockets<W> {
     {
         if is_so {
             self.end_input(id);
-            self.note_held(id);
         }
     }
 
@@ -163,7 +161,6 @@ impl<W: Wire> Sockets<W> {
     {
         // Who was served has room that it may not need for long.
         self.rooms.note(false, true, self.time);
-        self.note_held(id);
         let is_more = self.note_rest(id, rest);
         self.mark_busy_if(id, rest == Rest::Busy);
         self.mark_ready_if(id, is_more);
@@ -182,7 +179,7 @@ impl<W: Wire> Sockets<W> {
     fn note_rest(&mut self, id: usize, rest: Rest) -> bool
         ensures ends { Stay W.history self.old self.new }
     {
-        let share = self.share();
+        let share = self.stalls.share;
         match self.clients.get_mut(id) {
             Some(client) => note_rest(client, rest, share, self.in_rounds),
             None => false,
@@ -240,7 +237,6 @@ impl<W: Wire> Sockets<W> {
         self.stalls.forget(id);
         self.times.forget(id);
         self.drop_end(id);
-        self.note_held(id);
     }
 
     /// The end of the client of this id gives back the room in which nothing is left.

@@ -17,8 +17,8 @@
 //! - Settled commands go on when their clients are polled next (`serving.rt`), and the core's replies go to the client's end
 //!   (`showing.rt`), from which they are sent. How long commands took is counted (`times.rt`).
 //! - Where it is to end, clients go once nothing of them is under way (`draining.rt`).
-//! - A client that takes nothing of much that is to be sent to it is closed after a while (`stalls.rt`), and how much is held for clients is
-//!   counted (`budget.rt`).
+//! - A client that takes nothing of much that is to be sent to it is closed after a while, and one for which most is held where too much is
+//!   held for all; each one's share is a part of what may be held where that is scarce (`stalls.rt`).
 //! - Room that large data took is lent to the next client that wants such, and goes back after a while (`rooms.rt`).
 //!
 //! Each list of what is to be done is taken and worked off (`worklist.rt`); what is marked meanwhile is for the next stage or turn.
@@ -27,7 +27,6 @@
 mod accepting;
 mod answers;
 mod beginning;
-mod budget;
 mod calls;
 mod clients;
 mod clock;

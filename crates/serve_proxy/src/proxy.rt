@@ -11,6 +11,7 @@ ghost use Rattle.serve_proxy.specs.Ends.{Stay, end_of, AllGoOn, AllDrop, AllLoad
 ghost use Rattle.core_accepted.specs.Logs.{TreesAreSound, CountsBegun};
 ghost use Rattle.serve_proxy.specs.LogsGoOn.{LogsAreFresh};
 ghost use Rattle.serve_proxy.specs.Stalls.{held_by_all};
+ghost use Rattle.serve_proxy.specs.Shares.{share_by};
 ghost use Rattle.serve_proxy.specs.Stillness.{EndIsStill};
 ghost use Rattle.serve_proxy.specs.Beginning.{BeginsFresh, BeginsUnchecked};
 ghost use Rattle.serve_proxy.specs.Bringing.{BeginWith, RefusesBoth};
@@ -64,6 +65,7 @@ fn run_turn<W: Wire, R: Net + Clock>(
 ) -> io::Result<()>
     ensures ends { AllGoOn W.history core.old sockets.old core.new sockets.new }
     ensures bounded { OnOk result (held_by_all sockets.new.clients ≤ most) }
+    ensures share { OnOk result (sockets.new.stalls.share ≡ share_by most (held_by_all sockets.new.clients) sockets.new.links.settings.clients) }
     ensures refused { OnErr result (core.new ≡ core.old) }
 {
     // Something is waited for, and what is ready is noted.
@@ -188,7 +190,7 @@ impl<W: Wire> ProxyEnd<W> {
         ensures ends { Stay W.history self.old.sockets self.new.sockets }
     {
         self.most = most;
-        self.sockets.stalls.bound(ms, most);
+        self.sockets.stalls.bound(ms);
     }
 
     /// Where the gate accepted its trees, they are sound, and each log that may have led to the core is fresh, if servers began as is said. A
@@ -248,7 +250,9 @@ impl<W: Wire> ProxyEnd<W> {
     /// One turn: a wait until something is ready or late, and then all that is ready is done.
     ///
     /// By calls of the core, loads aside, all ends go on: where they agreed with all calls before the turn, they agree with all calls after it. At the
-    /// end of the turn no more bytes are held for all clients together than [`bound_clients`](ProxyEnd::bound_clients) sets.
+    /// end of the turn no more bytes are held for all clients together than [`bound_clients`](ProxyEnd::bound_clients) sets, and until the end of the next
+    /// one the replies that are held for a client are within its share before a command of it begins: where more than three quarters are held, by its part
+    /// of these.
     ///
     /// The only error is the system's, of its clock or of the wait: the core is then as it was. Where memory is refused for what is done, a client
     /// is closed or its commands fail.
@@ -256,6 +260,7 @@ impl<W: Wire> ProxyEnd<W> {
         ensures core { GoesOn self.old.core.value self.new.core.value }
         ensures ends { AllGoOn W.history self.old.core.value self.old.sockets self.new.core.value self.new.sockets }
         ensures bounded { OnOk result (held_by_all self.new.sockets.clients ≤ self.old.most) }
+        ensures share { OnOk result (self.new.sockets.stalls.share ≡ share_by self.old.most (held_by_all self.new.sockets.clients) self.new.sockets.links.settings.clients) }
         ensures most { self.new.most ≡ self.old.most }
         ensures refused { OnErr result (self.new.core ≡ self.old.core) }
     {
@@ -266,7 +271,9 @@ impl<W: Wire> ProxyEnd<W> {
     /// One turn whose wait ends after this long at the latest, so that several ends can be turned in one thread.
     ///
     /// By calls of the core, loads aside, all ends go on: where they agreed with all calls before the turn, they agree with all calls after it. At the
-    /// end of the turn no more bytes are held for all clients together than [`bound_clients`](ProxyEnd::bound_clients) sets.
+    /// end of the turn no more bytes are held for all clients together than [`bound_clients`](ProxyEnd::bound_clients) sets, and until the end of the next
+    /// one the replies that are held for a client are within its share before a command of it begins: where more than three quarters are held, by its part
+    /// of these.
     ///
     /// The only error is the system's, of its clock or of the wait: the core is then as it was. Where memory is refused for what is done, a client
     /// is closed or its commands fail.
@@ -274,6 +281,7 @@ impl<W: Wire> ProxyEnd<W> {
         ensures core { GoesOn self.old.core.value self.new.core.value }
         ensures ends { AllGoOn W.history self.old.core.value self.old.sockets self.new.core.value self.new.sockets }
         ensures bounded { OnOk result (held_by_all self.new.sockets.clients ≤ self.old.most) }
+        ensures share { OnOk result (self.new.sockets.stalls.share ≡ share_by self.old.most (held_by_all self.new.sockets.clients) self.new.sockets.links.settings.clients) }
         ensures most { self.new.most ≡ self.old.most }
         ensures refused { OnErr result (self.new.core ≡ self.old.core) }
     {

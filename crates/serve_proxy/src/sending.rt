@@ -66,7 +66,7 @@ fn send_client<W: Wire>(core: &mut ServedCore, sockets: &mut Sockets<W>, id: usi
         return sockets.hold_back(id);
     }
     let (is_more, has_spare) = write_client(core, sockets, id);
-    sockets.note_held(id);
+    sockets.note_written();
     sockets.mark_ready_if(id, is_more);
     if has_spare {
         return take_rooms(core, sockets, id);

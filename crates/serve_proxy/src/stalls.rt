@@ -1,18 +1,18 @@
-//! Clients that take nothing of much that is to be sent to them, or for whom too much is held: since when, and which are closed for that.
+//! Clients that take nothing of much that is to be sent to them, or for whom too much is held: since when, and which are closed for that; and
+//! each one's share, where much is held for all.
 
-ghost use Rattle.std.specs.Prelude.{IfSome, [], ◌≡◌, ◌≢◌, ◌↔◌, ℕ, ◌<◌, ◌≤◌, ◌-◌, IsTrue, false, OnOk, None, length, min, sum, slice_set};
+ghost use Rattle.std.specs.Prelude.{IfSome, [], ◌≡◌, ◌≢◌, ◌↔◌, ℕ, ◌<◌, ◌≤◌, ◌-◌, IsTrue, false, OnOk, None, length, slice_set};
 ghost use Rattle.serve_proxy.specs.Ends.{Stay, AllGoOn, AllGoBreaking};
 ghost use Rattle.serve_proxy.specs.Stalls.{since_of, since_by, HasStalled, OnlyStalled, HasMost, OnlyMost, greater_of, held_by_all, holders};
-ghost use Rattle.serve_proxy.specs.Budgets.{others_than, share_by};
+ghost use Rattle.serve_proxy.specs.Shares.{three_quarters, share_if, share_by};
 ghost use Rattle.serve_clients.specs.Marks.{client_of};
 ghost use Rattle.serve_clients.specs.Holdings.{held_at};
 
-use crate::budget::Budget;
 use crate::clock::earlier;
 use crate::sending::write_client;
 use crate::sockets::Sockets;
 use core_accepted::ServedCore;
-use serve_clients::{Client, Departure};
+use serve_clients::{Client, Departure, SHARE};
 use serve_wire::Wire;
 use std::alloc::{AllocError, Global};
 
@@ -35,8 +35,10 @@ pub struct Stalls {
     ms: u64,
     // By their ids, in milliseconds.
     since: Vec<Option<u64>>,
-    // How many bytes are held for clients.
-    pub budget: Budget,
+    /// Of how many bytes of replies each client has its share, by what was held for all after the last turn.
+    pub share: usize,
+    /// Whether more than three quarters of what may be were held then.
+    pub is_scarce: bool,
     // Whether memory was refused for what a server sent.
     is_short: bool,
     // Nobody has stalled before this time.
@@ -79,7 +81,8 @@ impl Stalls {
         Stalls {
             ms: USUAL_MS,
             since: Vec::new(alloc),
-            budget: Budget::new(alloc, USUAL_MOST),
+            share: SHARE,
+            is_scarce: false,
             is_short: false,
             late_from: None,
             closed: 0,
@@ -87,24 +90,15 @@ impl Stalls {
         }
     }
 
-    /// A client that takes nothing of much for so many milliseconds has stalled, and so many bytes are held for all at most.
-    pub fn bound(&mut self, ms: u64, most: usize)
-        ensures { self.new ≡ record self.old { ms = ms; budget = record self.old.budget { most = most } } }
+    /// A client that takes nothing of much for so many milliseconds has stalled.
+    pub fn bound(&mut self, ms: u64)
+        ensures { self.new ≡ record self.old { ms = ms } }
     {
         self.ms = ms;
-        self.budget.bound(most);
     }
 
     /// A client of this id can be noted.
     pub fn make_place(&mut self, id: usize) -> Result<(), AllocError>
-        ensures there { OnOk result (id < length self.new.since.items) }
-        ensures same { (other : ℕ) → since_of self.new other ≡ since_of self.old other }
-    {
-        self.budget.make_place(id)?;
-        self.make_since(id)
-    }
-
-    fn make_since(&mut self, id: usize) -> Result<(), AllocError>
         ensures there { OnOk result (id < length self.new.since.items) }
         ensures same { (other : ℕ) → since_of self.new other ≡ since_of self.old other }
     {
@@ -233,13 +227,34 @@ impl Stalls {
 }
 
 /// After all clients were written, those that have stalled are broken off, and those for which most is held, until no more than so many bytes
-/// are held for all.
+/// are held for all. Each one's share is by what is left then.
 pub fn close_slow<W: Wire>(core: &ServedCore, sockets: &mut Sockets<W>, most: usize)
     ensures ends { AllGoOn W.history core.now sockets.old core.now sockets.new }
     ensures bounded { held_by_all sockets.new.clients ≤ most }
+    ensures share { sockets.new.stalls.share ≡ share_by most (held_by_all sockets.new.clients) sockets.new.links.settings.clients }
 {
     end_stalled(core, sockets);
     shed(core, sockets, most);
+    sockets.note_share(most);
+}
+
+// Three quarters of a number, and at most three more.
+fn three_quarters(n: usize) -> usize
+    ensures { result ≡ three_quarters n }
+{
+    n - n / 4
+}
+
+// Of how many bytes of replies each of so many clients has its share, where so many may be held for all: its part of three quarters, where it is so.
+fn share_if(is_scarce: bool, most: usize, clients: usize) -> usize
+    ensures { result ≡ share_if is_scarce most clients }
+{
+    if is_scarce {
+        let part = three_quarters(most) / clients.max(1);
+        part.max(1).min(SHARE)
+    } else {
+        SHARE
+    }
 }
 
 // Where more bytes than these are held for all clients, the client for which most are is broken off, until no more are than that; and once where
@@ -266,7 +281,6 @@ fn shed_one<W: Wire>(core: &ServedCore, sockets: &mut Sockets<W>)
         return;
     };
     sockets.break_client(id);
-    sockets.note_held(id);
     sockets.stalls.note_closed(true);
     sockets.mark_ready_if(id, true)
 }
@@ -317,7 +331,6 @@ fn write_again<W: Wire>(core: &ServedCore, sockets: &mut Sockets<W>, id: usize)
 {
     let (is_more, _) = write_client(core, sockets, id);
     let is_broken = sockets.break_stalled(id);
-    sockets.note_held(id);
     sockets.stalls.note_closed(is_broken);
     sockets.mark_ready_if(id, is_more || is_broken)
 }
@@ -356,22 +369,24 @@ impl<W: Wire> Sockets<W> {
         best
     }
 
-    /// How many bytes are held for the client is noted. Where they were scarce and became fewer, clients that wait for that can go on.
-    pub fn note_held(&mut self, id: usize)
+    // Of how many bytes of replies each client has its share until this is asked again is noted, by what is held for all now and how much may be. Where
+    // that was scarce and is no longer, clients that wait for it can go on.
+    fn note_share(&mut self, most: usize)
         ensures ends { Stay W.history self.old self.new }
-        ensures noted { self.new.stalls.budget.held.items ≡ slice_set self.old.stalls.budget.held.items id (min (held_at self.old.clients id) (usize.MAX - others_than id self.old.stalls.budget.held.items)) }
+        ensures share { self.new.stalls.share ≡ share_by most (held_by_all self.old.clients) self.new.links.settings.clients }
         ensures clients { self.new.clients ≡ self.old.clients }
     {
-        let held = self.clients.held(id);
-        let is_freed = self.stalls.budget.note_freed(id, held);
-        self.is_freed = self.is_freed || is_freed;
+        let is_scarce = self.clients.hold_more(three_quarters(most));
+        self.is_freed = self.is_freed || (self.stalls.is_scarce && !is_scarce);
+        self.stalls.is_scarce = is_scarce;
+        self.stalls.share = share_if(is_scarce, most, self.links.settings.clients);
     }
 
-    /// Of how many bytes of replies each client has its share.
-    pub fn share(&self) -> usize
-        ensures { result ≡ share_by self.now.stalls.budget.most (sum self.now.stalls.budget.held.items) self.now.links.settings.clients }
+    /// A client was written. While much is held for all, those that wait for their share may go on by that.
+    pub fn note_written(&mut self)
+        ensures ends { Stay W.history self.old self.new }
     {
-        self.stalls.budget.share(self.links.settings.clients)
+        self.is_freed = self.is_freed || self.stalls.is_scarce;
     }
 
     // The client is broken off, and no other.

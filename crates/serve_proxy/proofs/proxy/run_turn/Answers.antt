@@ -12,3 +12,6 @@ returns-clause-ends g c =
 
 pub returns-clause-bounded : goal.returns-clause-bounded
 returns-clause-bounded g c = c.close_slow.ensures.bounded
+
+pub returns-clause-share : goal.returns-clause-share
+returns-clause-share g c = c.close_slow.ensures.share

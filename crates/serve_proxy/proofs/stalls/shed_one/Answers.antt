@@ -1,5 +1,5 @@
-use Rattle.std.proofs.Common.{◌-◌, ◌≤◌, inl, refl, ap, sym, subst, ◌∙◌}
-use Rattle.serve_clients.proofs.Agreeing.{keeps_none, keeps_twice}
+use Rattle.std.proofs.Common.{◌-◌, ◌≤◌, inl, refl, sym, subst}
+use Rattle.serve_clients.proofs.Agreeing.{keeps_none}
 use Rattle.serve_proxy.specs.Stalls.{HasMost, holders}
 use Rattle.serve_proxy.proofs.Going.{and_then, breaking, stays, still}
 use Rattle.serve_proxy.proofs.Greatest.{only_most, if_there}
@@ -9,12 +9,12 @@ use Rattle.serve_proxy.proofs.stalls.shed_one.Goals as goal
 pub returns : goal.returns
 returns g c =
     let most = if_there (HasMost c.args.sockets.now.clients) c.greatest.result c.in-Some.id c.in-Some.is c.greatest.ensures.most in
-    let same = alike_holders c.note_held.new.self.clients c.mark_ready_if.new.self.clients c.mark_ready_if.ensures.held ∙ ap holders c.note_held.ensures.clients in
+    let same = alike_holders c.break_client.new.self.clients c.mark_ready_if.new.self.clients c.mark_ready_if.ensures.held in
     record {
-      ends = and_then (and_then (breaking (c.break_client.ensures.ends c.args.core.now)) (stays c.args.core.now c.note_held.ensures.ends)) (stays c.args.core.now c.mark_ready_if.ensures.ends);
+      ends = and_then (breaking (c.break_client.ensures.ends c.args.core.now)) (stays c.args.core.now c.mark_ready_if.ensures.ends);
       only =
           only_most c.args.sockets.now.clients c.args.sockets.now.clients c.break_client.new.self.clients c.mark_ready_if.new.self.clients c.in-Some.id (keeps_none c.args.sockets.now.clients) c.break_client.ensures.others
-          (keeps_twice c.break_client.new.self.clients c.note_held.new.self.clients c.mark_ready_if.new.self.clients c.note_held.ensures.ends.clients c.mark_ready_if.ensures.ends.clients)
+          c.mark_ready_if.ensures.ends.clients
           most;
       fewer = subst (λ n. n ≤ holders c.args.sockets.now.clients - 1) (sym same) (fewer c.args.sockets.now.clients c.break_client.new.self.clients c.in-Some.id c.break_client.ensures.places c.break_client.ensures.others c.break_client.ensures.none most);
     }

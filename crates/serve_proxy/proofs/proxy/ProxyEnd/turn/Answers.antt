@@ -21,3 +21,6 @@ returns-clause-refused g c = on_err_weaker c.run_turn.result (λ e. ap (λ v. wi
 
 pub returns-clause-bounded : goal.returns-clause-bounded
 returns-clause-bounded g c = c.run_turn.ensures.bounded
+
+pub returns-clause-share : goal.returns-clause-share
+returns-clause-share g c = c.run_turn.ensures.share

@@ -8,6 +8,6 @@ use Rattle.serve_proxy.proofs.sockets.Sockets.remove_client.Goals as goal
 pub returns : goal.returns
 returns g c = record {
   ends = λ before core does sent.
-      and_then (and_then (gone_go c.args.id c.drop_end.ensures.gone (record { some = c.drop_end.ensures.some; none = c.drop_end.ensures.none }) before core does sent)
-      (stays core (stay_links _ _ _ _ (ap (λ s. link_lines s.links.all.items) c.drop_end.ensures.rest)))) (stays core c.note_held.ensures.ends);
+      and_then (gone_go c.args.id c.drop_end.ensures.gone (record { some = c.drop_end.ensures.some; none = c.drop_end.ensures.none }) before core does sent)
+      (stays core (stay_links _ _ _ _ (ap (λ s. link_lines s.links.all.items) c.drop_end.ensures.rest)));
 }

@@ -1,6 +1,6 @@
 use Rattle.std.proofs.Common.{◌≡◌, ℕ, length}
 use Rattle.serve_proxy.specs.Stalls.{since_of}
-use Rattle.serve_proxy.proofs.stalls.Stalls.make_since.Given as goal
+use Rattle.serve_proxy.proofs.stalls.Stalls.make_place.Given as goal
 
 abbrev pub invariant-loop : goal.invariant-loop
 invariant-loop l = record {
