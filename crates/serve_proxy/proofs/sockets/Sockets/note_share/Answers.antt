@@ -16,6 +16,6 @@ returns g c =
       share =
           c.share_if-self.ensures
           ∙ ap (λ s. share_if s c.args.most c.args.self.now.links.settings.clients)
-            (is_more c.hold_more-is_scarce.result c.three_quarters.result (held_by_all c.args.self.now.clients) c.hold_more-is_scarce.ensures.more ∙ ap (λ n. nat_lt n (held_by_all c.args.self.now.clients)) c.three_quarters.ensures);
+          (is_more c.hold_more-is_scarce.result c.three_quarters.result (held_by_all c.args.self.now.clients) c.hold_more-is_scarce.ensures.more ∙ ap (λ n. nat_lt n (held_by_all c.args.self.now.clients)) c.three_quarters.ensures);
       clients = same;
     }
