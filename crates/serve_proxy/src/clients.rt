@@ -58,12 +58,12 @@ fn note_rest(client: &mut Client, rest: Rest, share: usize, in_rounds: bool) -> 
 
 impl<W: Wire> Sockets<W> {
     /// How often a client is polled before the next one's turn.
-    pub fn polls(&self) -> usize {
+    pub(crate) fn polls(&self) -> usize {
         if self.in_rounds { 1 } else { POLLS }
     }
 
     /// Whether a command of the client of this id may go on, or begin.
-    pub fn may_go_on(&mut self, id: usize) -> bool
+    pub(crate) fn may_go_on(&mut self, id: usize) -> bool
         ensures ends { Stay W.history self.old self.new }
         ensures share { result ≡ true → IfSome (client_of self.old.clients id) (MayGoOn self.old.stalls.share) }
     {
@@ -75,7 +75,7 @@ impl<W: Wire> Sockets<W> {
     }
 
     /// What the polls of the client of this id end with where none of its commands may go on or begin.
-    pub fn rest_of(&self, id: usize) -> Rest {
+    pub(crate) fn rest_of(&self, id: usize) -> Rest {
         if self.stalls.is_scarce && self.clients.held(id) > 0 {
             Rest::Busy
         } else {
@@ -84,7 +84,7 @@ impl<W: Wire> Sockets<W> {
     }
 
     /// The core is done with a message of the client of this id.
-    pub fn note_passed(&mut self, id: usize)
+    pub(crate) fn note_passed(&mut self, id: usize)
         ensures ends { Stay W.history self.old self.new }
     {
         if let Some(client) = self.clients.get_mut(id) {
@@ -93,7 +93,7 @@ impl<W: Wire> Sockets<W> {
     }
 
     /// The core has refused a message of the client of this id, and is done with that: `is_closed` tells whether it closed the client for it.
-    pub fn note_refused(&mut self, id: usize, is_closed: bool)
+    pub(crate) fn note_refused(&mut self, id: usize, is_closed: bool)
         ensures ends { Stay W.history self.old self.new }
     {
         if let Some(client) = self.clients.get_mut(id) {
@@ -102,7 +102,7 @@ impl<W: Wire> Sockets<W> {
     }
 
     /// The core holds nothing of what the client of this id sent, where `is_so` holds.
-    pub fn end_input_if(&mut self, id: usize, is_so: bool)
+    pub(crate) fn end_input_if(&mut self, id: usize, is_so: bool)
         ensures ends { Stay W.history self.old self.new }
     {
         if is_so {
@@ -119,7 +119,7 @@ impl<W: Wire> Sockets<W> {
     }
 
     /// One of its commands went on.
-    pub fn note_went_on(&mut self, id: usize)
+    pub(crate) fn note_went_on(&mut self, id: usize)
         ensures ends { Stay W.history self.old self.new }
     {
         if let Some(client) = self.clients.get_mut(id) {
@@ -128,7 +128,7 @@ impl<W: Wire> Sockets<W> {
     }
 
     /// One of its commands went on, or began, by a call.
-    pub fn note_called(&mut self, id: usize)
+    pub(crate) fn note_called(&mut self, id: usize)
         ensures ends { Stay W.history self.old self.new }
     {
         if let Some(client) = self.clients.get_mut(id) {
@@ -137,7 +137,7 @@ impl<W: Wire> Sockets<W> {
     }
 
     /// Whether a command of it can go on, as its call was settled.
-    pub fn has_settled(&mut self, id: usize) -> bool
+    pub(crate) fn has_settled(&mut self, id: usize) -> bool
         ensures ends { Stay W.history self.old self.new }
     {
         match self.clients.get_mut(id) {
@@ -147,7 +147,7 @@ impl<W: Wire> Sockets<W> {
     }
 
     /// Nothing more is read of the client of this id. Unless it had ended, that is why it goes.
-    pub fn end_client(&mut self, id: usize, why: Departure)
+    pub(crate) fn end_client(&mut self, id: usize, why: Departure)
         ensures ends { GoAlone W.history self.old self.new }
     {
         if let Some(client) = self.clients.get_mut(id) {
@@ -156,7 +156,7 @@ impl<W: Wire> Sockets<W> {
     }
 
     /// What the polls of the client of this id ended with, and what may be done for it, is noted.
-    pub fn mark_rest(&mut self, id: usize, rest: Rest)
+    pub(crate) fn mark_rest(&mut self, id: usize, rest: Rest)
         ensures ends { Stay W.history self.old self.new }
     {
         // Who was served has room that it may not need for long.
@@ -187,7 +187,7 @@ impl<W: Wire> Sockets<W> {
     }
 
     /// The client of this id is to be served, where `is_more` holds. What is held for each client stays.
-    pub fn mark_ready_if(&mut self, id: usize, is_more: bool)
+    pub(crate) fn mark_ready_if(&mut self, id: usize, is_more: bool)
         ensures ends { Stay W.history self.old self.new }
         ensures held { HoldAlike self.old.clients self.new.clients }
     {
@@ -197,7 +197,7 @@ impl<W: Wire> Sockets<W> {
     }
 
     /// Whether what is to be sent to the client of this id is held back in this turn. In rounds all is sent as it comes.
-    pub fn holds_back(&mut self, id: usize) -> bool
+    pub(crate) fn holds_back(&mut self, id: usize) -> bool
         ensures ends { Stay W.history self.old self.new }
     {
         if self.in_rounds {
@@ -210,7 +210,7 @@ impl<W: Wire> Sockets<W> {
     }
 
     /// If nothing is to be sent to the client of this id, it keeps no large room for that: it is spare.
-    pub fn take_room(&mut self, id: usize)
+    pub(crate) fn take_room(&mut self, id: usize)
         ensures ends { Stay W.history self.old self.new }
     {
         if let Some(client) = self.clients.get_mut(id) {
@@ -219,7 +219,7 @@ impl<W: Wire> Sockets<W> {
     }
 
     /// Nobody stands under this id, and the connection of who did is closed.
-    pub fn drop_end(&mut self, id: usize)
+    pub(crate) fn drop_end(&mut self, id: usize)
         ensures some { IfSome (client_conn self.old.clients id) (λ c. Closes c (W.history self.old.wire) (W.history self.new.wire)) }
         ensures none { client_conn self.old.clients id ≡ None → W.history self.new.wire ≡ W.history self.old.wire }
         ensures gone { self.new.clients.all.items ≡ slice_set self.old.clients.all.items id None }
@@ -230,7 +230,7 @@ impl<W: Wire> Sockets<W> {
     }
 
     /// The client of this id, which the core has closed, is gone for this cause, and its connection is closed.
-    pub fn remove_client(&mut self, id: usize, why: Departure)
+    pub(crate) fn remove_client(&mut self, id: usize, why: Departure)
         ensures ends { AllGoClosed W.history id self.old self.new }
     {
         self.tally.gone.note(why);
@@ -240,7 +240,7 @@ impl<W: Wire> Sockets<W> {
     }
 
     /// The end of the client of this id gives back the room in which nothing is left.
-    pub fn give_back_end(&mut self, id: usize)
+    pub(crate) fn give_back_end(&mut self, id: usize)
         ensures ends { Stay W.history self.old self.new }
     {
         self.times.shrink(id);

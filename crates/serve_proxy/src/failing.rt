@@ -277,7 +277,7 @@ impl<W: Wire> Sockets<W> {
     }
 
     /// What has come over the link's connection whose end is awaited is thrown away, if it has one. Where more may be there it is to be read again.
-    pub fn drain(&mut self, at: usize)
+    pub(crate) fn drain(&mut self, at: usize)
         ensures ends { GoAlone W.history self.old self.new }
     {
         if self.drain_once(at) {

@@ -23,24 +23,25 @@ use std::time::Duration;
 /// All that an end has but its core.
 #[derive(Drop)]
 pub struct Sockets<W: Wire> {
-    pub alloc: Global,
+    pub(crate) alloc: Global,
     /// What the clock showed when it was looked at last, in milliseconds.
-    pub time: u64,
+    pub(crate) time: u64,
     /// What it stands on.
     pub wire: W,
-    pub accepting: Accepting,
+    pub(crate) accepting: Accepting,
+    /// The ends of clients.
     pub clients: Clients,
-    pub links: Links,
-    pub rooms: Rooms,
-    pub stalls: Stalls,
-    pub work: Worklist,
+    pub(crate) links: Links,
+    pub(crate) rooms: Rooms,
+    pub(crate) stalls: Stalls,
+    pub(crate) work: Worklist,
     /// Whether a key or a server became free since busy clients were served.
-    pub is_freed: bool,
+    pub(crate) is_freed: bool,
     /// Whether clients are polled in rounds.
-    pub in_rounds: bool,
+    pub(crate) in_rounds: bool,
     /// What it has done so far.
     pub tally: Tally,
-    pub times: CommandTimes,
+    pub(crate) times: CommandTimes,
 }
 
 /// A connection that is done with is closed, if there is one.
@@ -64,7 +65,7 @@ pub fn shut_if_any<W: Wire>(wire: &mut W, conn: Option<usize>)
 
 impl<W: Wire> Sockets<W> {
     /// No client is there yet, and no link has a connection.
-    pub fn new(alloc: Global, wire: W, links: Links) -> Sockets<W>
+    pub(crate) fn new(alloc: Global, wire: W, links: Links) -> Sockets<W>
         ensures links { result.links ≡ links }
         ensures none { result.clients.all.items ≡ [] }
         ensures wire { result.wire ≡ wire }
@@ -115,7 +116,7 @@ impl<W: Wire> Sockets<W> {
     }
 
     /// Whether so many calls are out, and nothing is left to do until something comes.
-    pub fn is_still(&self, calls: usize) -> bool
+    pub(crate) fn is_still(&self, calls: usize) -> bool
         ensures { IsTrue result ↔ AreStill calls self.now }
     {
         !self.has_work() && self.links.are_out(calls)
@@ -138,7 +139,7 @@ impl<W: Wire> Sockets<W> {
     }
 
     /// How long may be waited, by the clock of now.
-    pub fn wait_limit<C: Clock>(&mut self, clock: &C) -> io::Result<Option<Duration>>
+    pub(crate) fn wait_limit<C: Clock>(&mut self, clock: &C) -> io::Result<Option<Duration>>
         ensures ends { AllTick W.history self.old self.new }
     {
         self.look(clock)?;
@@ -152,7 +153,7 @@ impl<W: Wire> Sockets<W> {
     }
 
     /// A wait until something is ready, and no longer than this. What is ready is noted.
-    pub fn wait<C: Clock>(&mut self, clock: &C, limit: Option<Duration>) -> io::Result<()>
+    pub(crate) fn wait<C: Clock>(&mut self, clock: &C, limit: Option<Duration>) -> io::Result<()>
         ensures ends { AllTick W.history self.old self.new }
     {
         let count = self.wire.wait(limit)?;
@@ -163,7 +164,7 @@ impl<W: Wire> Sockets<W> {
     }
 
     /// Those that may be missing in a list of what is to be done, as memory was refused for that, are listed again.
-    pub fn list_again(&mut self)
+    pub(crate) fn list_again(&mut self)
         ensures ends { Stay W.history self.old self.new }
     {
         self.clients.list_again();

@@ -383,7 +383,7 @@ impl<W: Wire> Sockets<W> {
     }
 
     /// A client was written. While much is held for all, those that wait for their share may go on by that.
-    pub fn note_written(&mut self)
+    pub(crate) fn note_written(&mut self)
         ensures ends { Stay W.history self.old self.new }
     {
         self.is_freed = self.is_freed || self.stalls.is_scarce;
