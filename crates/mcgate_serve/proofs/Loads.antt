@@ -11,9 +11,9 @@ use Rattle.serve_wire.specs.Events.{WireEvent}
 use Rattle.serve_links.specs.declared.link.Link.{Link}
 use Rattle.serve_links.specs.declared.settings.LinkLimits.{LinkLimits}
 use Rattle.serve_links.specs.declared.settings.Settings.{Settings}
-use Rattle.serve_links.specs.CoreSteps.{Step, Opened, NotOpened, Fed, Polled, Stopped, Settled, Gave, Closed, LeftLine, Broke, Ticked, Loaded, Linked, Asked, Greeted, Spelled, Late, CameLate, Lost, StepsAreOf, IsOfTurn}
+use Rattle.serve_links.specs.CoreSteps.{Obstacle, WaitedLong, StoreLate, ForeignCame, Unseen, Step, Opened, NotOpened, Fed, Polled, Stopped, Settled, Gave, Closed, LeftLine, Broke, Ticked, Loaded, Linked, Asked, Greeted, Spelled, Late, CameLate, Lost, Noted, StepsAreOf, IsOfTurn}
 use Rattle.serve_links.specs.Lateness.{usual_limits}
-use Rattle.serve_links.specs.Story.{AnEnd, AllGo, IsByLimit, most_of, texts_of, servers_of}
+use Rattle.serve_links.specs.Story.{AnEnd, AllGo, ObstacleIsByLimit, IsByLimit, most_of, texts_of, servers_of}
 use Rattle.serve_proxy.specs.declared.proxy.ProxyEnd.{ProxyEnd}
 use Rattle.serve_proxy.specs.declared.sockets.Sockets.{Sockets}
 use Rattle.serve_proxy.specs.Ends.{Stay, StayButLimits, end_of, AllGoOn, AllGrow, IsLoadOf, LinksLoad, AllLoad}
@@ -25,8 +25,8 @@ use Rattle.core_accepted.specs.Loading.{IsLoaded}
 use Rattle.mcgate_serve.specs.declared.remembering.Kept.{Kept}
 use Rattle.mcgate_serve.specs.Remembers.{StandsIn, StandsIfLoaded}
 use Rattle.mcgate_serve.specs.InFleet.{StandsBeside, in_use_after}
-use Rattle.mcgate_serve.specs.Serves.{TextSaysAfter, MayLoad, MayLoadBeside, MayLoadText, LoadsOne, LoadsText, IsServeStep, proxy_of, GoesOnServing}
-use Rattle.mcgate_serve.specs.Limits.{IsTextLimit, call_limit, connect_limit, UsesText, UseTexts, KeepsToTexts, ServesByTexts, GoesOnFrom}
+use Rattle.mcgate_serve.specs.Serves.{TextSaysAfter, MayLoad, MayLoadBeside, MayLoadText, LoadsOne, LoadsText, IsServeStep, proxy_of}
+use Rattle.mcgate_serve.specs.Limits.{IsTextLimit, call_limit, connect_limit, ObstacleIsByText, UsesText, UseTexts, KeepsToTexts, ServesByTexts, GoesOnFrom}
 
 false_true : false ≡ true → ⊥
 false_true e = cc
@@ -47,6 +47,7 @@ of_turn (Broke client) is = tt
 of_turn (Linked at dialect) is = tt
 of_turn (Asked at number dialect ask since) is = tt
 of_turn (Greeted at dialect bytes) is = tt
+of_turn (Noted at obstacle) is = tt
 of_turn (Late at number limit now) is = tt
 of_turn (CameLate at number ask answer bytes) is = tt
 of_turn (Spelled at number ask answer bytes) is = tt
@@ -70,6 +71,12 @@ get_more [] ys at x is = absurd (none_some is)
 get_more (y ∷ xs) ys zero x is = is
 get_more (y ∷ xs) ys (suc at) x is = get_more xs ys at x is
 
+obstacle_more : (usual : LinkLimits) (names more : List (List ℕ)) (text : List ℕ) (at : ℕ) (obstacle : Obstacle) → ObstacleIsByText usual names text at obstacle → ObstacleIsByText usual (names ++ more) text at obstacle
+obstacle_more usual names more text at (WaitedLong number limit) u = (u.0, get_more names more at u.0 u.1, u.2)
+obstacle_more usual names more text at (StoreLate limit) u = (u.0, get_more names more at u.0 u.1, u.2)
+obstacle_more usual names more text at ForeignCame u = tt
+obstacle_more usual names more text at (Unseen why) u = tt
+
 uses_more : (usual : LinkLimits) (names more : List (List ℕ)) (before after : List ℕ) (step : Step) → UsesText usual names before after step → UsesText usual (names ++ more) before after step
 uses_more usual names more before after (Late at number limit now) u = (u.0, (u.1.0, get_more names more at u.1.0 u.1.1, u.1.2))
 uses_more usual names more before after (Loaded configuration generation) u = (u.0, u.1, (u.2.0 ++ more, ap (λ l. l ++ more) u.2.1 ∙ append_assoc configuration.servers u.2.0 more))
@@ -87,6 +94,7 @@ uses_more usual names more before after (Broke client) u = u
 uses_more usual names more before after (Linked at dialect) u = u
 uses_more usual names more before after (Asked at number dialect ask since) u = u
 uses_more usual names more before after (Greeted at dialect bytes) u = u
+uses_more usual names more before after (Noted at obstacle) u = (u.0, obstacle_more usual names more before at obstacle u.1)
 uses_more usual names more before after (CameLate at number ask answer bytes) u = u
 uses_more usual names more before after (Spelled at number ask answer bytes) u = u
 uses_more usual names more before after (Lost at why limit) u = (u.0, (u.1.0, get_more names more at u.1.0 u.1.1, u.1.2))
@@ -115,6 +123,12 @@ names_of (link ∷ links) = ap (λ l. link.text.items ∷ l) (names_of links)
 abbrev MayBe : LinkLimits → List (List ℕ) → List ℕ → (ℕ → Option LinkLimits) → Type 0
 MayBe usual names text most = (of : LinkLimits → ℕ) (at limit : ℕ) → option_map of (most at) ≡ Some limit → IsTextLimit of usual names text at limit
 
+obstacle_uses : (usual : LinkLimits) (names : List (List ℕ)) (text : List ℕ) (most : ℕ → Option LinkLimits) → MayBe usual names text most → (at : ℕ) (obstacle : Obstacle) → ObstacleIsByLimit (option_map call_limit (most at)) obstacle → ObstacleIsByText usual names text at obstacle
+obstacle_uses usual names text most may at (WaitedLong number limit) late = may call_limit at limit late
+obstacle_uses usual names text most may at (StoreLate limit) late = may call_limit at limit late
+obstacle_uses usual names text most may at ForeignCame late = tt
+obstacle_uses usual names text most may at (Unseen why) late = tt
+
 -- a turn leaves it in use
 turn_uses : (usual : LinkLimits) (names : List (List ℕ)) (text : List ℕ) (most : ℕ → Option LinkLimits) → MayBe usual names text most → (step : Step) → IsOfTurn step → IsByLimit most step → UsesText usual names text text step
 turn_uses usual names text most may (Late at number limit now) is late = (refl, may call_limit at limit late)
@@ -133,6 +147,7 @@ turn_uses usual names text most may (Broke client) is late = refl
 turn_uses usual names text most may (Linked at dialect) is late = refl
 turn_uses usual names text most may (Asked at number dialect ask since) is late = refl
 turn_uses usual names text most may (Greeted at dialect bytes) is late = refl
+turn_uses usual names text most may (Noted at obstacle) is late = (refl, obstacle_uses usual names text most may at obstacle late)
 turn_uses usual names text most may (CameLate at number ask answer bytes) is late = refl
 turn_uses usual names text most may (Spelled at number ask answer bytes) is late = refl
 turn_uses usual names text most may (Lost at why limit) is late = (refl, may connect_limit at limit late)

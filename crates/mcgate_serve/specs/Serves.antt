@@ -7,7 +7,7 @@ use Rattle.route_json.specs.Configuration.{Configuration}
 use Rattle.core_accepted.specs.declared.served.ServedCore.{ServedCore}
 use Rattle.core_accepted.specs.Loading.{IsLoaded}
 use Rattle.serve_wire.specs.Events.{WireEvent}
-use Rattle.serve_links.specs.CoreSteps.{Step, Opened, NotOpened, Fed, Polled, Stopped, Settled, Gave, Closed, LeftLine, Broke, Ticked, Loaded, Linked, Asked, Greeted, Spelled, Late, CameLate, Lost}
+use Rattle.serve_links.specs.CoreSteps.{Step, Opened, NotOpened, Fed, Polled, Stopped, Settled, Gave, Closed, LeftLine, Broke, Ticked, Loaded, Linked, Asked, Greeted, Spelled, Late, CameLate, Lost, Noted}
 use Rattle.serve_links.specs.Story.{AnEnd}
 use Rattle.serve_proxy.specs.declared.proxy.ProxyEnd.{ProxyEnd}
 use Rattle.serve_proxy.specs.Ends.{end_of, AllGrow}
@@ -34,6 +34,7 @@ IsServeStep (Broke client) = Unit {0}
 IsServeStep (Linked at dialect) = Unit {0}
 IsServeStep (Asked at number dialect ask since) = Unit {0}
 IsServeStep (Greeted at dialect bytes) = Unit {0}
+IsServeStep (Noted at obstacle) = Unit {0}
 IsServeStep (Late at number limit now) = Unit {0}
 IsServeStep (CameLate at number ask answer bytes) = Unit {0}
 IsServeStep (Spelled at number ask answer bytes) = Unit {0}

@@ -4,9 +4,9 @@ use Rattle.std.specs.Prelude.{slice_get}
 use Rattle.std.specs.Option.{option_map}
 use Rattle.serve_links.specs.declared.settings.LinkLimits.{LinkLimits}
 use Rattle.serve_links.specs.declared.link.Link.{Link}
-use Rattle.serve_links.specs.CoreSteps.{Step, Opened, NotOpened, Fed, Polled, Stopped, Settled, Gave, Closed, LeftLine, Broke, Ticked, Loaded, Linked, Asked, Greeted, Spelled, Late, CameLate, Lost, StepsAreOf}
+use Rattle.serve_links.specs.CoreSteps.{Obstacle, WaitedLong, StoreLate, ForeignCame, Unseen, Step, Opened, NotOpened, Fed, Polled, Stopped, Settled, Gave, Closed, LeftLine, Broke, Ticked, Loaded, Linked, Asked, Greeted, Spelled, Late, CameLate, Lost, Noted, StepsAreOf}
 use Rattle.serve_links.specs.Talks.{IsOfClients, IsOfServer}
-use Rattle.serve_links.specs.Story.{address_and_opened, address_and_limits, server_and_opened, servers_of, most_of, IsByLimit, KeepsServer, KeepsServers}
+use Rattle.serve_links.specs.Story.{address_and_opened, address_and_limits, server_and_opened, servers_of, most_of, ObstacleIsByLimit, IsByLimit, KeepsServer, KeepsServers}
 use Rattle.serve_links.proofs.Talking.{clients_plain}
 use Rattle.serve_links.proofs.Walked.{of_both}
 use Rattle.serve_links.proofs.Showing.{IsUnlost, plain_unlost}
@@ -33,6 +33,7 @@ unlost_late most (step ∷ steps) kinds = (by step kinds.0, unlost_late most ste
     by (Linked at dialect) is = tt
     by (Asked at number dialect ask since) is = tt
     by (Greeted at dialect bytes) is = tt
+    by (Noted at obstacle) is = absurd is
     by (Late at number limit now) is = absurd is
     by (CameLate at number ask answer bytes) is = tt
     by (Spelled at number ask answer bytes) is = tt
@@ -44,6 +45,12 @@ own_late most most' i (step ∷ steps) same own late = (by step own.0 late.0, ow
   where
     its_limit : (of : LinkLimits → ℕ) (at limit : ℕ) → at ≡ i → option_map of (most at) ≡ Some limit → option_map of (most' at) ≡ Some limit
     its_limit of at limit its is = ap (option_map of) (ap most' its ∙ same ∙ sym (ap most its)) ∙ is
+
+    its_obstacle : (at : ℕ) (obstacle : Obstacle) → at ≡ i → ObstacleIsByLimit (option_map (λ (limits : LinkLimits). limits.call_ms) (most at)) obstacle → ObstacleIsByLimit (option_map (λ (limits : LinkLimits). limits.call_ms) (most' at)) obstacle
+    its_obstacle at (WaitedLong number limit) its is = its_limit (λ (limits : LinkLimits). limits.call_ms) at limit its is
+    its_obstacle at (StoreLate limit) its is = its_limit (λ (limits : LinkLimits). limits.call_ms) at limit its is
+    its_obstacle at ForeignCame its is = tt
+    its_obstacle at (Unseen why) its is = tt
 
     by : (s : Step) → IsOfServer i s → IsByLimit most s → IsByLimit most' s
     by (Lost at why limit) its is = its_limit (λ (limits : LinkLimits). limits.connect_ms) at limit its is
@@ -62,6 +69,7 @@ own_late most most' i (step ∷ steps) same own late = (by step own.0 late.0, ow
     by (Linked at dialect) its is = tt
     by (Asked at number dialect ask since) its is = tt
     by (Greeted at dialect bytes) its is = tt
+    by (Noted at obstacle) its is = its_obstacle at obstacle its is
     by (Late at number limit now) its is = its_limit (λ (limits : LinkLimits). limits.call_ms) at limit its is
     by (CameLate at number ask answer bytes) its is = tt
     by (Spelled at number ask answer bytes) its is = tt
@@ -108,7 +116,7 @@ servers_then first later xs ys zs g k = record {
 pub clients_servers : (steps : List Step) (xs ys : List Link) → StepsAreOf IsOfClients steps → servers_of ys ≡ servers_of xs → KeepsServers steps xs ys
 clients_servers steps xs ys own same = record { same = same; late = unlost_late (most_of (servers_of xs)) steps (plain_unlost steps (clients_plain steps own)) }
 
-most_there : (links : List Link) (at : ℕ) (x : Link) → slice_get links at ≡ Some x → most_of (servers_of links) at ≡ Some x.limits
+pub most_there : (links : List Link) (at : ℕ) (x : Link) → slice_get links at ≡ Some x → most_of (servers_of links) at ≡ Some x.limits
 most_there [] at x is = absurd (none_some is)
   where
     none_some : None ≡ Some x → ⊥

@@ -5,7 +5,6 @@ use Rattle.std.specs.Prelude.{nat_eq, nat_lt, slice_index, IfSome}
 use Rattle.mc_types.specs.declared.ask.Ask.{Ask}
 use Rattle.mc_types.specs.declared.call.Outcome.{Outcome}
 use Rattle.mc_types.specs.declared.call.Outcome.TheVariants.{Answered, Failed}
-use Rattle.route_json.specs.Configuration.{Configuration}
 use Rattle.route_job.specs.Rest.{ask_under}
 use Rattle.route_job.specs.Jobs.{server_of_pending}
 use Rattle.core_commands.specs.declared.command.Command.{Command}
@@ -22,12 +21,12 @@ use Rattle.core_proxy.proofs.CallsStay.{none_out}
 use Rattle.core_accepted.specs.declared.served.ServedCore.{ServedCore}
 use Rattle.core_accepted.specs.declared.tally.CoreTally.{CoreTally}
 use Rattle.core_accepted.specs.Results.{CountsResult, SettleStops, IsSettled}
-use Rattle.core_accepted.specs.Tallies.{ReplyKind, TellsError, ShowsItem, Acknowledges, TellsOther, reply_kind, one_more, more_at, lost_unless, unplaced_at, with_reply, with_note, with_poll, with_call, with_outcome, with_client, with_refusal, AddsPlaces, MakesPlaces, nothing_done, of_server}
-use Rattle.serve_links.specs.CoreSteps.{Step, Opened, NotOpened, Fed, Polled, Stopped, Settled, Gave, Closed, LeftLine, Loaded, Spelled, Does, Walks}
+use Rattle.core_accepted.specs.Tallies.{ReplyKind, TellsError, ShowsItem, Acknowledges, TellsOther, reply_kind, one_more, lost_unless, unplaced_at, with_reply, with_note, with_poll, with_call, with_outcome, with_client, with_refusal, with_unshown, AddsPlaces, MakesPlaces, nothing_done}
+use Rattle.serve_links.specs.CoreSteps.{WaitedLong, StoreLate, ForeignCame, Unseen, Step, Opened, NotOpened, Fed, Polled, Stopped, Settled, Gave, Closed, LeftLine, Loaded, Spelled, Noted, Does, Walks}
 use Rattle.serve_links.specs.Called.{call_in, TellsCallsOut}
 use Rattle.serve_links.specs.Talks.{MayComeNext, IsOrderly}
 use Rattle.serve_links.specs.Counts.{number_of, counted, answers_one, fails_one}
-use Rattle.serve_links.specs.ByServer.{calls_server, is_at, settles_at, settled_at, IsCountedAt, AreCountedByServer, StepsAreCountedByServer}
+use Rattle.serve_links.specs.ByServer.{calls_server, is_at, settles_at, settled_at, AreCountedByServer, StepsAreCountedByServer}
 use Rattle.serve_links.proofs.Called.{walks_tell_calls}
 use Rattle.serve_links.proofs.Counts.{at_place, tally_same, stopped_same, not_none}
 
@@ -216,6 +215,11 @@ step_counted (Closed client) past a b tells may does was = kept (Closed client) 
 step_counted (LeftLine client) past a b tells may does was = kept (LeftLine client) past a.tally b.tally (λ server. refl) (λ is server. refl) (unchanged a.tally b.tally does.1.tally) was
 step_counted (Spelled at number ask answer bytes) past a b tells may does was =
     kept (Spelled at number ask answer bytes) past a.tally b.tally (λ server. refl) (λ is server. refl) (unchanged a.tally b.tally (tally_same a b does.0)) was
+step_counted (Noted at (WaitedLong number limit)) past a b tells may does was = kept (Noted at (WaitedLong number limit)) past a.tally b.tally (λ server. refl) (λ is server. refl) (unchanged a.tally b.tally (tally_same a b does)) was
+step_counted (Noted at (StoreLate limit)) past a b tells may does was = kept (Noted at (StoreLate limit)) past a.tally b.tally (λ server. refl) (λ is server. refl) (unchanged a.tally b.tally (tally_same a b does)) was
+step_counted (Noted at ForeignCame) past a b tells may does was = kept (Noted at ForeignCame) past a.tally b.tally (λ server. refl) (λ is server. refl) (unchanged a.tally b.tally (tally_same a b does)) was
+step_counted (Noted at (Unseen why)) past a b tells may does was =
+    kept (Noted at (Unseen why)) past a.tally b.tally (λ server. refl) (λ is server. refl) (by_count a.tally b.tally (with_unshown why) (record { calls = refl; answered = refl; failed = refl; unplaced = refl }) does.1.tally) was
 step_counted step past a b tells may does was = kept step past a.tally b.tally (λ server. refl) (λ is server. refl) (unchanged a.tally b.tally (tally_same a b does)) was
 
 walk_counted :

@@ -10,7 +10,7 @@ use Rattle.core_proxy.specs.declared.note.Poll.{Poll}
 use Rattle.core_proxy.specs.declared.note.Poll.TheVariants as polls
 use Rattle.serve_wire.proofs.Steps.{equal}
 use Rattle.serve_links.specs.declared.calls.calls.SentCall.{SentCall}
-use Rattle.serve_links.specs.CoreSteps.{Step, Opened, NotOpened, Fed, Polled, Stopped, Settled, Gave, Closed, LeftLine, Broke, Ticked, Loaded, Linked, Asked, Greeted, Spelled, Late, CameLate, Lost, StepsAreOf}
+use Rattle.serve_links.specs.CoreSteps.{Step, Opened, NotOpened, Fed, Polled, Stopped, Settled, Gave, Closed, LeftLine, Broke, Ticked, Loaded, Linked, Asked, Greeted, Spelled, Late, CameLate, Lost, Noted, StepsAreOf}
 use Rattle.serve_links.specs.Called.{call_by, call_in, due_in, clock_in, given_in, IsGivenOnce, GivesOnce, GiveOnce}
 use Rattle.serve_links.specs.Talks.{SaidAsk, Talk, behind, first_talk, with_ask, greeted, with_first_answer, turned_late, with_late, given_up, talk_in, IsCalledIn, IsNotAmong, AreDue, AreCalled, MayComeNext, IsOrderly, IsOfClients}
 use Rattle.serve_links.specs.Story.{said_asks, StayOut, LeavesCalls}
@@ -91,6 +91,7 @@ due_out (Broke client ∷ past) n call is = due_out past n call is
 due_out (Loaded configuration generation ∷ past) n call is = due_out past n call is
 due_out (Linked at dialect ∷ past) n call is = due_out past n call is
 due_out (Greeted at dialect bytes ∷ past) n call is = due_out past n call is
+due_out (Noted at obstacle ∷ past) n call is = due_out past n call is
 due_out (Late at number limit now ∷ past) n call is = due_out past n call is
 due_out (CameLate at number ask answer bytes ∷ past) n call is = due_out past n call is
 due_out (Spelled at number ask answer bytes ∷ past) n call is = due_out past n call is
@@ -418,6 +419,7 @@ out_called (Linked i dialect ∷ past) at o = less_out past (Linked i dialect �
 out_called (Asked i number dialect ask since ∷ past) at o = asked_out past at i number dialect ask since o.0.1 (out_called past at o.1)
 out_called (Greeted i dialect bytes ∷ past) at o =
     less_out past (Greeted i dialect bytes ∷ past) at (λ n. refl) (λ n. refl) (λ n. refl) (out_by (nat_eq i at) (talk_in past at) (greeted dialect bytes (talk_in past at)) (inl refl)) (out_called past at o.1)
+out_called (Noted i obstacle ∷ past) at o = same_out past (Noted i obstacle ∷ past) at (λ n. refl) (λ n. refl) (λ n. refl) refl (out_called past at o.1)
 out_called (Spelled i number ask answer bytes ∷ past) at o =
     less_out past (Spelled i number ask answer bytes ∷ past) at (λ n. refl) (λ n. refl) (λ n. refl) (out_by (nat_eq i at) (talk_in past at) (with_first_answer bytes (talk_in past at)) (inr (inl refl))) (out_called past at o.1)
 out_called (Late i number limit now ∷ past) at o = less_out past (Late i number limit now ∷ past) at (λ n. refl) (λ n. refl) (λ n. refl) (out_by (nat_eq i at) (talk_in past at) (turned_late (talk_in past at)) (inr (inl refl))) (out_called past at o.1)
@@ -476,6 +478,7 @@ clients_stay at (step ∷ steps) kinds past once = λ n ask is.
     by (Linked i dialect) is before once = absurd is
     by (Asked i number dialect ask since) is before once = absurd is
     by (Greeted i dialect bytes) is before once = absurd is
+    by (Noted i obstacle) is before once = absurd is
     by (Late i number limit now) is before once = absurd is
     by (CameLate i number ask answer bytes) is before once = absurd is
     by (Spelled i number ask answer bytes) is before once = absurd is
@@ -520,6 +523,7 @@ given_after (Broke c) past virtual ticket real may was = was
 given_after (Loaded configuration generation) past virtual ticket real may was = was
 given_after (Linked i dialect) past virtual ticket real may was = was
 given_after (Greeted i dialect bytes) past virtual ticket real may was = was
+given_after (Noted i obstacle) past virtual ticket real may was = was
 given_after (Late i number limit now) past virtual ticket real may was = was
 given_after (CameLate i number ask answer bytes) past virtual ticket real may was = was
 given_after (Spelled i number ask answer bytes) past virtual ticket real may was = was

@@ -30,7 +30,7 @@ use Rattle.core_accepted.specs.Pipes.{Sends, moments_of, behind_first, tickets_a
 use Rattle.core_accepted.specs.Parts.{PipesInOrder}
 use Rattle.core_accepted.specs.LateCores.{only_line}
 use Rattle.serve_links.specs.declared.settings.Greeting.{Greeting}
-use Rattle.serve_links.specs.CoreSteps.{Step, Opened, NotOpened, Fed, Polled, Stopped, Settled, Gave, Closed, LeftLine, Broke, Ticked, Loaded, Linked, Asked, Greeted, Spelled, Late, CameLate, Lost, Walks}
+use Rattle.serve_links.specs.CoreSteps.{Step, Opened, NotOpened, Fed, Polled, Stopped, Settled, Gave, Closed, LeftLine, Broke, Ticked, Loaded, Linked, Asked, Greeted, Spelled, Late, CameLate, Lost, Noted, Walks}
 use Rattle.serve_links.specs.Called.{TellsCallsOut}
 use Rattle.serve_links.specs.Talks.{Standing, Apart, InUse, Ending, standing_after, Talk, first_talk, with_ask, greeted, with_first_answer, turned_late, with_late, given_up, talk_in, MayComeNext, IsOrderly}
 use Rattle.serve_links.specs.InOrder.{Move, OfProxy, OfServer, walk_of, log_of, with_commands, moments_in, out_origin, sent_over, left_with, queued_at, changed_in, conns_by, conns_after, conns_in, MayApply, AreApplied, LeadAlong, with_moves, closed_if, with_step, as_pipes, ConnectionsAreInOrder}
@@ -97,6 +97,7 @@ step_keeps (Asked at number spoken ask since) past log i conns steps may was =
     asked (nat_eq at i) (talk_in past i) (with_ask number spoken ask since (talk_in past i)) conns (pipe_of only_line steps 0 i) (record { number = number; ask = ask; origin = out_origin log at number }) refl was
 step_keeps (Lost at why limit) past log i conns steps may was = lost (standing_after why) at i (talk_in past i) (given_up why (talk_in past i)) conns steps refl was
 step_keeps (Greeted at spoken bytes) past log i conns steps may was = stays (nat_eq at i) (talk_in past i) (greeted spoken bytes (talk_in past i)) conns (pipe_of only_line steps 0 i) refl was
+step_keeps (Noted at obstacle) past log i conns steps may was = was
 step_keeps (Late at number limit now) past log i conns steps may was = stays (nat_eq at i) (talk_in past i) (turned_late (talk_in past i)) conns (pipe_of only_line steps 0 i) refl was
 step_keeps (CameLate at number ask answer bytes) past log i conns steps may was = stays (nat_eq at i) (talk_in past i) (with_late bytes (talk_in past i)) conns (pipe_of only_line steps 0 i) refl was
 step_keeps (Spelled at number ask answer bytes) past log i conns steps may was = stays (nat_eq at i) (talk_in past i) (with_first_answer bytes (talk_in past i)) conns (pipe_of only_line steps 0 i) refl was
@@ -228,6 +229,7 @@ moments_step (Ticked now) log steps = refl
 moments_step (Broke client) log steps = refl
 moments_step (Loaded configuration generation) log steps = refl
 moments_step (Greeted at spoken bytes) log steps = refl
+moments_step (Noted at obstacle) log steps = refl
 moments_step (Late at number limit now) log steps = refl
 moments_step (CameLate at number ask answer bytes) log steps = refl
 moments_step (Spelled at number ask answer bytes) log steps = refl
@@ -377,6 +379,7 @@ module _ (first : ServedCore) (believes : ℕ → List ℕ → Option Item) (tel
   order_step (Broke client) past mid leads applied may order = order
   order_step (Loaded configuration generation) past mid leads applied may order = order
   order_step (Greeted at spoken bytes) past mid leads applied may order = order
+  order_step (Noted at obstacle) past mid leads applied may order = order
   order_step (Late at number limit now) past mid leads applied may order = order
   order_step (CameLate at number ask answer bytes) past mid leads applied may order = order
   order_step (Spelled at number ask answer bytes) past mid leads applied may order = order

@@ -109,7 +109,7 @@ waited_last : (limit now : ℕ) (first later : List SaidAsk) → HasWaited limit
 waited_last limit now [] later has = has
 waited_last limit now (said ∷ first) later has = inr (waited_last limit now first later has)
 
-waited_of : (limit now : ℕ) (calls : List SentCall) → Any (IsLate limit now) calls → HasWaited limit now (said_asks calls)
+pub waited_of : (limit now : ℕ) (calls : List SentCall) → Any (IsLate limit now) calls → HasWaited limit now (said_asks calls)
 waited_of limit now [] any = absurd (omega (arith, any.2))
 waited_of limit now (call ∷ calls) any = by (λ rest. waited_of limit now calls rest) any.0 any.2 any.3
   where

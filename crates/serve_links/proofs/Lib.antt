@@ -26,3 +26,4 @@ pub mod Alike
 pub mod LateWalks
 pub mod Counts
 pub mod ByServer
+pub mod Refused

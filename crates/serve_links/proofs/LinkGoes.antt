@@ -1,5 +1,5 @@
 -- What is done at one link, as steps of a walk with which it goes on to agree.
-use Rattle.std.proofs.Common.{◌≡◌, ℕ, Bool, true, false, if◌then◌else◌, List, [], ◌∷◌, ◌++◌, Option, Some, None, ◌⊎◌, inl, inr, refl, sym, ap, ◌∙◌, subst, append_assoc, append-nil}
+use Rattle.std.proofs.Common.{◌≡◌, ◌≢◌, ℕ, Bool, false, if◌then◌else◌, List, [], ◌∷◌, ◌++◌, Option, Some, None, ◌⊎◌, inl, inr, refl, sym, ap, ◌∙◌, subst, append_assoc, append-nil}
 use Rattle.std.specs.Prelude.{IfSome, MatchOption, nat_eq}
 use Rattle.std.specs.Option.{option_map}
 use Rattle.std.proofs.lemmas.Bool.{cases_Bool, eqb-true}
@@ -22,15 +22,16 @@ use Rattle.serve_links.specs.declared.link.Opening.{Opening}
 use Rattle.serve_links.specs.declared.link.Opening.TheVariants as opening
 use Rattle.serve_links.specs.declared.link.Link.{Link}
 use Rattle.serve_links.specs.declared.news.Cause.{Cause}
-use Rattle.serve_links.specs.CoreSteps.{Step, Opened, NotOpened, Fed, Polled, Stopped, Settled, Gave, Closed, LeftLine, Broke, Ticked, Loaded, Linked, Asked, Greeted, Spelled, Late, CameLate, Lost, StepsAreOf, IsOfTurn, IsFailure, IsGivingUp, IsSending}
+use Rattle.serve_links.specs.declared.news.Cause.TheVariants as causes
+use Rattle.serve_links.specs.CoreSteps.{Obstacle, Step, Opened, NotOpened, Fed, Polled, Stopped, Settled, Gave, Closed, LeftLine, Broke, Ticked, Loaded, Linked, Asked, Greeted, Spelled, Late, CameLate, Lost, Noted, StepsAreOf, IsOfTurn, IsFailure, IsGivingUp, IsSending}
 use Rattle.serve_links.specs.Dialects.{asked_in, GreetsAwaited, awaits_flush}
 use Rattle.serve_links.specs.Lines.{first_asked_of, awaits_first, first_dialect, greeting_of, SameLine, KeepsLines, IsNewEnd, HasNewEnd, OpensLink, TakesGreeting, HasLearnt, Learns}
 use Rattle.serve_links.specs.Links.{FailsTo}
 use Rattle.serve_links.specs.Settled.{SettlesSome}
-use Rattle.serve_links.specs.Talks.{SaidAsk, Talk, Apart, Ending, standing_after, first_talk, with_ask, greeted, given_up, talk_in, IsAmong, AreDue, AreCalled, AreGivenUp, IsOrderly, IsOfServer}
+use Rattle.serve_links.specs.Talks.{SaidAsk, Talk, Apart, InUse, Ending, standing_after, first_talk, with_ask, greeted, given_up, talk_in, IsNotedFor, IsAmong, AreDue, AreCalled, AreGivenUp, IsOrderly, IsOfServer}
 use Rattle.serve_links.specs.Called.{TellsCallsOut}
 use Rattle.serve_links.proofs.Called.{walks_tell_calls}
-use Rattle.serve_links.specs.Story.{said_asks, said_late, MayGo, MayAllGo, TalkAgrees, Unused, AllGivenUp, ConnAgrees, LineAgrees, LineLost, LineFails, ShowsWhy, WasShown, StepsAreShown, LineCalled, address_and_opened, address_and_limits, server_and_opened, LineState, line_of, KeepsOthers, LeavesCalls, LineGoesFrom, LineGoes}
+use Rattle.serve_links.specs.Story.{said_asks, said_late, MayGo, MayAllGo, TalkAgrees, Unused, AllGivenUp, ConnAgrees, LineAgrees, LineLost, LineFails, LineLeaves, ShowsWhy, WasShown, StepsAreShown, LineCalled, address_and_opened, address_and_limits, server_and_opened, LineState, line_of, KeepsOthers, LeavesCalls, LineGoesFrom, LineGoes}
 use Rattle.serve_links.proofs.Talking.{calls_later, one_more, IsPlain, plain_talk, sent_out, waiting_out, all_given_later, given_parts, given_now, sent_fail, waiting_fail, FailsInOrder, fail_in_order}
 use Rattle.serve_links.proofs.Due.{due_stays, called_stays, leaves_twice, due_behind, due_taken, SentGone, sent_gone, waiting_gone, AskedOne, asked_one}
 use Rattle.serve_links.proofs.Walked.{walked, of_both}
@@ -628,9 +629,9 @@ line_loses {at} {core} {core'} {h} x y c d rest was is off alone place waiting a
 -- it had no connection in use, and nothing happened
 gives_none :
     {at : ℕ} {core : ServedCore} {h h' : List WireEvent} (why : Option Cause) (x y : Link) → x.conn ≡ None → h' ≡ h → y.conn ≡ None → y.draining ≡ x.draining → address_and_limits y ≡ address_and_limits x → y.waiting.items ≡ x.waiting.items
-    → y.calls.sent.items ≡ x.calls.sent.items → LineGoesFrom (LineFails why) LineAgrees (IsGivingUp why) at core h x core h' y
+    → y.calls.sent.items ≡ x.calls.sent.items → LineGoesFrom (LineLeaves why) LineAgrees (IsGivingUp why) at core h x core h' y
 gives_none {at} {core} {h} {h'} why x y had same closed draining server waiting sent =
-    line_moves refl ([], same) (shut_still still (conns_same x y (closed ∙ sym had) draining)) server (λ past a. (left past a, all_kept (1, at) h h' still))
+    line_moves refl ([], same) (shut_still still (conns_same x y (closed ∙ sym had) draining)) server (λ past a. (left past a.0, all_kept (1, at) h h' still))
   where
     still : (d : ℕ) → IsUntouched d h h'
     still d = subst (IsUntouched d h) (sym same) (untouched d h)
@@ -645,14 +646,14 @@ gives_none {at} {core} {h} {h'} why x y had same closed draining server waiting 
 gives_up :
     {at : ℕ} {core : ServedCore} {h h' : List WireEvent} (why : Option Cause) (x y : Link) (c : Conn) → x.conn ≡ Some c → TouchesOnly c.number h h' → role c.number h' ≡ role c.number h → y.conn ≡ None → address_and_limits y ≡ address_and_limits x
     → y.waiting.items ≡ x.waiting.items → y.calls.sent.items ≡ x.calls.sent.items → StaysShut at h x h' y
-    → ((past : List Step) → LineFails why at past h x → Unused h' at y.text.items (talk_in (Lost at why x.limits.connect_ms ∷ past) at) (drain_of y)) → LineGoesFrom (LineFails why) LineAgrees (IsGivingUp why) at core h x core h' y
+    → ((past : List Step) → LineFails why at past h x → Unused h' at y.text.items (talk_in (Lost at why x.limits.connect_ms ∷ past) at) (drain_of y)) → LineGoesFrom (LineLeaves why) LineAgrees (IsGivingUp why) at core h x core h' y
 gives_up {at} {core} {h} {h'} why x y c e only same_role closed server waiting sent shut unused = record {
   steps = Lost at why x.limits.connect_ms ∷ [];
   kinds = (refl, tt);
   own = (refl, tt);
   walks = (core, refl, refl);
-  agrees = λ past o tells a. ((tt, o), left past a, keeps_others c.number (1, at) h h' (a.lost.conn c e).1.is_to same_role only, λ j other n ask is. (refl, refl, refl));
-  shown = λ past o tells a shown. (was_shown past a, shown_since past h h' (only_after c.number h h' only) shown);
+  agrees = λ past o tells a. ((a.1, o), left past a.0, keeps_others c.number (1, at) h h' (a.0.lost.conn c e).1.is_to same_role only, λ j other n ask is. (refl, refl, refl));
+  shown = λ past o tells a shown. (was_shown past a.0, shown_since past h h' (only_after c.number h h' only) shown);
   shut = shut;
   server = record { same = server; late = (refl, tt) };
 }
@@ -687,10 +688,10 @@ gives_up {at} {core} {h} {h'} why x y c e only same_role closed server waiting s
 pub line_closes :
     {at : ℕ} {core : ServedCore} {h h' : List WireEvent} (why : Option Cause) → standing_after why ≡ Apart → (x y : Link) (r : Option ℕ) → r ≡ option_map (λ (z : Conn). z.number) x.conn → IfSome r (λ c. Closes c h h') → (r ≡ None → h' ≡ h) → y.conn ≡ None
     → MatchOption x.conn (y.draining ≡ x.draining) (λ c. y.draining ≡ None) → address_and_limits y ≡ address_and_limits x → y.waiting.items ≡ x.waiting.items → y.calls.sent.items ≡ x.calls.sent.items
-    → LineGoesFrom (LineFails why) LineAgrees (IsGivingUp why) at core h x core h' y
+    → LineGoesFrom (LineLeaves why) LineAgrees (IsGivingUp why) at core h x core h' y
 line_closes {at} {core} {h} {h'} why apart x y r r_is some none closed draining server waiting sent = by x.conn refl draining
   where
-    by : (o : Option Conn) → x.conn ≡ o → MatchOption o (y.draining ≡ x.draining) (λ c. y.draining ≡ None) → LineGoesFrom (LineFails why) LineAgrees (IsGivingUp why) at core h x core h' y
+    by : (o : Option Conn) → x.conn ≡ o → MatchOption o (y.draining ≡ x.draining) (λ c. y.draining ≡ None) → LineGoesFrom (LineLeaves why) LineAgrees (IsGivingUp why) at core h x core h' y
     by None e same = gives_none why x y e (none (r_is ∙ ap (option_map (λ (z : Conn). z.number)) e)) closed same server waiting sent
     by (Some c) e undrained =
         gives_up why x y c e only (closed_role c.number h h' closes_it) closed server waiting sent (shut_closed c.number only (closed_shut c.number h h' closes_it) (conn_is x c e))
@@ -706,13 +707,13 @@ line_closes {at} {core} {h} {h'} why apart x y r r_is some none closed draining 
 -- or it can't be kept, and its end is awaited
 pub line_drains :
     {at : ℕ} {core : ServedCore} {h h' : List WireEvent} (why : Option Cause) → standing_after why ≡ Ending → (x y : Link) → h' ≡ h → y.conn ≡ None → conn_of y ≡ conn_of x → (x.conn ≡ None → y.draining ≡ x.draining) → address_and_limits y ≡ address_and_limits x
-    → y.waiting.items ≡ x.waiting.items → y.calls.sent.items ≡ x.calls.sent.items → LineGoesFrom (LineFails why) LineAgrees (IsGivingUp why) at core h x core h' y
+    → y.waiting.items ≡ x.waiting.items → y.calls.sent.items ≡ x.calls.sent.items → LineGoesFrom (LineLeaves why) LineAgrees (IsGivingUp why) at core h x core h' y
 line_drains {at} {core} {h} {h'} why ending x y same closed conns draining server waiting sent = by x.conn refl
   where
     still : (d : ℕ) → IsUntouched d h h'
     still d = subst (IsUntouched d h) (sym same) (untouched d h)
 
-    by : (o : Option Conn) → x.conn ≡ o → LineGoesFrom (LineFails why) LineAgrees (IsGivingUp why) at core h x core h' y
+    by : (o : Option Conn) → x.conn ≡ o → LineGoesFrom (LineLeaves why) LineAgrees (IsGivingUp why) at core h x core h' y
     by None e = gives_none why x y e same closed (draining e) server waiting sent
     by (Some c) e =
         gives_up why x y c e (λ d other. still d) (still c.number).same_role closed server waiting sent (shut_still still conns)
@@ -727,6 +728,20 @@ line_drains {at} {core} {h} {h'} why ending x y same closed conns draining serve
             subst (λ k. Unused k at y.text.items (talk_in (Lost at why x.limits.connect_ms ∷ past) at) (Some c.number)) (sym same)
             (subst (λ w. Unused h at w (talk_in (Lost at why x.limits.connect_ms ∷ past) at) (Some c.number)) (sym (same_text x y server))
             (subst (λ u. Unused h at x.text.items u (Some c.number)) (sym talk) (ending, (a.lost.conn c e).0, bytes_of c.unsent, x.opened, now)))
+
+-- what is to be given up is so still once something was noted
+pub noted_fails : (why : Option Cause) (at : ℕ) (obstacle : Obstacle) (past : List Step) (h : List WireEvent) (x : Link) → LineFails why at past h x → LineFails why at (Noted at obstacle ∷ past) h x
+noted_fails why at obstacle past h x a = record {
+  lost = record {
+    conn = a.lost.conn;
+    waiting = calls_later (Noted at obstacle ∷ []) past at x.waiting.items a.lost.waiting;
+    due = due_stays past (Noted at obstacle ∷ past) at (said_asks x.waiting.items) (λ n ask is. (refl, refl, refl)) a.lost.due;
+    none_out = λ none. let out = a.lost.none_out none in (out.0, all_given_later (Noted at obstacle ∷ []) past (said_asks x.calls.sent.items) out.1);
+    unused = a.lost.unused;
+    called = called_stays past (Noted at obstacle ∷ past) at (said_asks x.calls.sent.items) (λ n ask is. (refl, refl, refl)) a.lost.called;
+  };
+  shows = a.shows;
+}
 
 -- ---- the end of one that can't be kept
 
@@ -770,6 +785,21 @@ line_away {at = at} {h = h} {h' = h'} x y c d bytes none was is number r =
         (subst (Unused h' at y.text.items (talk_in past at)) (sym drains) (subst (λ w. Unused h' at w (talk_in past at) (Some c.number)) (sym (ap (λ (z : Link). z.text.items) is)) (now past a)))
         (subst (λ l. AreCalled past at l) (sym (ap (λ (z : Link). said_asks z.calls.sent.items) is)) a.called)
 
+-- where none is in use then, and none is awaited, it wasn't for want of room
+apart_noted : (why : Option Cause) (at : ℕ) (past : List Step) → standing_after why ≡ Apart → IsNotedFor why at past
+apart_noted None at past apart = tt
+apart_noted (Some causes.Unreachable) at past apart = tt
+apart_noted (Some causes.ConnectLate) at past apart = tt
+apart_noted (Some causes.AnswerLate) at past apart = tt
+apart_noted (Some causes.Closed) at past apart = tt
+apart_noted (Some causes.Broken) at past apart = tt
+apart_noted (Some causes.ForeignAnswer) at past apart = tt
+apart_noted (Some causes.NoRoom) at past apart = absurd (ending_apart apart)
+  where
+    ending_apart : Ending ≡ Apart → ⊥
+    ending_apart e = cc
+apart_noted (Some causes.VainReads) at past apart = tt
+
 -- it has ended, or failed, or is awaited no longer, and was closed for that
 pub line_ends :
     {Is : Step → Type 0} {at : ℕ} {core : ServedCore} {h k h' : List WireEvent} (why : Option Cause) → ((limit : ℕ) → Is (Lost at why limit)) → standing_after why ≡ Apart → (x y : Link) (c : Conn) → x.conn ≡ None → x.draining ≡ Some c → y ≡ record x { draining = None }
@@ -779,7 +809,7 @@ line_ends {Is} {at} {core} {h} {k} {h'} why kind apart x y c none was is r shows
   kinds = (kind x.limits.connect_ms, tt);
   own = (refl, tt);
   walks = (core, refl, refl);
-  agrees = λ past o tells a. ((tt, o), left past a, keeps_others c.number (1, at) h h' (before past a).4.is_to (closed_role c.number k h' closes_it ∙ r.same_role) only, λ j other n ask is. (refl, refl, refl));
+  agrees = λ past o tells a. ((apart_noted why at past apart, o), left past a, keeps_others c.number (1, at) h h' (before past a).4.is_to (closed_role c.number k h' closes_it ∙ r.same_role) only, λ j other n ask is. (refl, refl, refl));
   shown = λ past o tells a shown. (was_shown past a, shown_since past h h' (only_after c.number h h' only) shown);
   shut = shut_closed c.number only (closed_shut c.number k h' closes_it) (conn_drains x none ∙ ap (option_map (λ (z : Conn). z.number)) was);
   server = record { same = ap address_and_limits is; late = (refl, tt) };
@@ -866,6 +896,7 @@ failed_own at (Loaded configuration generation ∷ steps) kinds = absurd kinds.0
 failed_own at (Linked a dialect ∷ steps) kinds = absurd kinds.0
 failed_own at (Asked a number dialect ask since ∷ steps) kinds = absurd kinds.0
 failed_own at (Greeted a dialect bytes ∷ steps) kinds = absurd kinds.0
+failed_own at (Noted a obstacle ∷ steps) kinds = absurd kinds.0
 failed_own at (Late a number limit now ∷ steps) kinds = absurd kinds.0
 failed_own at (CameLate a number ask answer bytes ∷ steps) kinds = absurd kinds.0
 failed_own at (Spelled a number ask answer bytes ∷ steps) kinds = absurd kinds.0
@@ -892,6 +923,7 @@ failed_giving why (step ∷ steps) kinds = (gives step kinds.0, failed_giving wh
     gives (Linked a dialect) is = absurd is
     gives (Asked a number dialect ask since) is = absurd is
     gives (Greeted a dialect bytes) is = absurd is
+    gives (Noted a obstacle) is = absurd is
     gives (Late a number limit now) is = absurd is
     gives (CameLate a number ask answer bytes) is = absurd is
     gives (Spelled a number ask answer bytes) is = absurd is
@@ -900,6 +932,17 @@ failed_giving why (step ∷ steps) kinds = (gives step kinds.0, failed_giving wh
 last_called : (past : List Step) (at : ℕ) (first later : List SentCall) → MayAllGo past at (first ++ later) → MayAllGo past at later
 last_called past at [] later are = are
 last_called past at (call ∷ first) later are = last_called past at first later are.1
+
+-- without a connection in use none is in use
+pub unused_apart : (h : List WireEvent) (at : ℕ) (text : List ℕ) (talk : Talk) (o : Option ℕ) → Unused h at text talk o → talk.stands ≢ InUse
+unused_apart h at text talk None is = λ e. apart_used (sym is ∙ e)
+  where
+    apart_used : Apart ≡ InUse → ⊥
+    apart_used e = cc
+unused_apart h at text talk (Some c) is = λ e. ending_used (sym is.0 ∙ e)
+  where
+    ending_used : Ending ≡ InUse → ⊥
+    ending_used e = cc
 
 -- calls of it fail, while it has no connection: of those that were sent, and of those that wait, the first do
 pub line_fails :
@@ -912,7 +955,7 @@ line_fails {why} {at} {core} {core'} {h} x y mid sent waiting had none draining 
   walks = walked w.steps f.steps core mid core' f.walks w.walks;
   agrees = λ past o tells a. (
     subst IsOrderly (sym (append_assoc w.steps f.steps past))
-        (w.orderly (f.steps ++ past) (waiting_out (f.steps ++ past) at waiting.0 y.waiting.items (after_sent past a).due) (waiting_fail (f.steps ++ past) at waiting.0 y.waiting.items (after_sent past a).due) (ap (λ (t : Talk). t.out) (plain_talk f.steps (failed_own at f.steps f.kinds).1 past at) ∙ (a.none_out had).0)
+        (w.orderly (f.steps ++ past) (waiting_out (f.steps ++ past) at waiting.0 y.waiting.items (after_sent past a).due) (waiting_fail (f.steps ++ past) at waiting.0 y.waiting.items (subst (λ (t : Talk). t.stands ≢ InUse) (sym (plain_talk f.steps (failed_own at f.steps f.kinds).1 past at)) (unused_apart h at x.text.items (talk_in past at) (drain_of x) (a.unused had))) (after_sent past a).due) (ap (λ (t : Talk). t.out) (plain_talk f.steps (failed_own at f.steps f.kinds).1 past at) ∙ (a.none_out had).0)
         (f.orderly past (sent_out past at sent.0 y.calls.sent.items (called past a)) (sent_fail past (said_asks sent.0) (given past a).0) (a.none_out had).0 o)),
     has_none at ((w.steps ++ f.steps) ++ past) h y none (calls_later (w.steps ++ f.steps) past at y.waiting.items (last_called past at waiting.0 y.waiting.items (subst (λ l. MayAllGo past at l) waiting.1 a.waiting)))
         (left past a).due

@@ -1,11 +1,12 @@
 -- Why connections were given up, as the wire showed it.
-use Rattle.std.proofs.Common.{◌≡◌, ℕ, List, [], ◌∷◌, ◌++◌, Option, refl}
+use Rattle.std.proofs.Common.{◌≡◌, ℕ, List, [], ◌∷◌, ◌++◌, Option, Some, refl}
 use Rattle.serve_wire.specs.Events.{WireEvent}
 use Rattle.serve_wire.specs.Agreement.{Extends}
 use Rattle.serve_wire.proofs.Steps.{extends_twice}
 use Rattle.serve_links.specs.declared.news.Cause.{Cause}
-use Rattle.serve_links.specs.CoreSteps.{Step, Opened, NotOpened, Fed, Polled, Stopped, Settled, Gave, Closed, LeftLine, Broke, Ticked, Loaded, Linked, Asked, Greeted, Spelled, Late, CameLate, Lost, StepsAreOf}
-use Rattle.serve_links.specs.Story.{WasShown, StepIsShown, StepsAreShown}
+use Rattle.serve_links.specs.CoreSteps.{Obstacle, WaitedLong, StoreLate, ForeignCame, Unseen, Step, Opened, NotOpened, Fed, Polled, Stopped, Settled, Gave, Closed, LeftLine, Broke, Ticked, Loaded, Linked, Asked, Greeted, Spelled, Late, CameLate, Lost, Noted, StepsAreOf}
+use Rattle.serve_links.specs.declared.news.Cause.TheVariants as causes
+use Rattle.serve_links.specs.Story.{WasShown, ObstacleIsShown, StepIsShown, StepsAreShown}
 use Rattle.serve_links.proofs.Talking.{IsPlain}
 
 -- no server's connection is given up, and no call is late
@@ -26,6 +27,7 @@ IsUnlost (Loaded configuration generation) = Unit {0}
 IsUnlost (Linked at dialect) = Unit {0}
 IsUnlost (Asked at number dialect ask since) = Unit {0}
 IsUnlost (Greeted at dialect bytes) = Unit {0}
+IsUnlost (Noted at obstacle) = ⊥
 IsUnlost (Late at number limit now) = ⊥
 IsUnlost (CameLate at number ask answer bytes) = Unit {0}
 IsUnlost (Spelled at number ask answer bytes) = Unit {0}
@@ -51,6 +53,7 @@ plain_unlost (step ∷ steps) kinds = (unlost step kinds.0, plain_unlost steps k
     unlost (Linked at dialect) is = absurd is
     unlost (Asked at number dialect ask since) is = absurd is
     unlost (Greeted at dialect bytes) is = absurd is
+    unlost (Noted at obstacle) is = absurd is
     unlost (Late at number limit now) is = absurd is
     unlost (CameLate at number ask answer bytes) is = absurd is
     unlost (Spelled at number ask answer bytes) is = absurd is
@@ -70,6 +73,12 @@ was_since why limit at past h h' more was = record {
   agrees = was.agrees;
   shows = was.shows;
 }
+
+obstacle_since : (obstacle : Obstacle) (at : ℕ) (past : List Step) (h h' : List WireEvent) → Extends h h' → ObstacleIsShown obstacle at past h → ObstacleIsShown obstacle at past h'
+obstacle_since ForeignCame at past h h' more was = was_since (Some causes.ForeignAnswer) 0 at past h h' more was
+obstacle_since (WaitedLong number limit) at past h h' more was = tt
+obstacle_since (StoreLate limit) at past h h' more was = tt
+obstacle_since (Unseen why) at past h h' more was = tt
 
 -- what was shown stays so
 pub shown_since : (steps : List Step) (h h' : List WireEvent) → Extends h h' → StepsAreShown steps h → StepsAreShown steps h'
@@ -93,6 +102,7 @@ shown_since (step ∷ steps) h h' more shown = (by step shown.0, shown_since ste
     by (Linked at dialect) was = tt
     by (Asked at number dialect ask since) was = tt
     by (Greeted at dialect bytes) was = tt
+    by (Noted at obstacle) was = obstacle_since obstacle at steps h h' more was
     by (Late at number limit now) was = (was.0, extends_twice was.0 h h' was.1 more, was.2)
     by (CameLate at number ask answer bytes) was = tt
     by (Spelled at number ask answer bytes) was = tt
@@ -119,6 +129,7 @@ shown_later (step ∷ steps) past h h' kinds more shown = (by step kinds.0, show
     by (Linked at dialect) is = tt
     by (Asked at number dialect ask since) is = tt
     by (Greeted at dialect bytes) is = tt
+    by (Noted at obstacle) is = absurd is
     by (Late at number limit now) is = absurd is
     by (CameLate at number ask answer bytes) is = tt
     by (Spelled at number ask answer bytes) is = tt

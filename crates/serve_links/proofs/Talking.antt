@@ -1,13 +1,13 @@
 -- What steps leave of what was told before them.
-use Rattle.std.proofs.Common.{◌≡◌, ℕ, false, if◌then◌else◌, List, [], ◌∷◌, ◌++◌, Option, Some, inl, inr, refl, sym, ap, ◌∙◌, subst, append_assoc}
-use Rattle.std.specs.Prelude.{nat_eq, IsSome}
+use Rattle.std.proofs.Common.{◌≡◌, ◌≢◌, ◌⊎◌, ℕ, false, if◌then◌else◌, List, [], ◌∷◌, ◌++◌, Option, Some, inl, inr, refl, sym, ap, ◌∙◌, subst, append_assoc}
+use Rattle.std.specs.Prelude.{nat_eq}
 use Rattle.mc_types.specs.declared.ask.Ask.{Ask}
 use Rattle.mc_types.specs.declared.call.Outcome.TheVariants.{Failed}
 use Rattle.core_proxy.specs.declared.note.Poll.TheVariants as polls
 use Rattle.serve_links.specs.declared.calls.calls.SentCall.{SentCall}
 use Rattle.serve_links.specs.declared.news.Cause.{Cause}
-use Rattle.serve_links.specs.CoreSteps.{Step, Opened, NotOpened, Fed, Polled, Stopped, Settled, Gave, Closed, LeftLine, Broke, Ticked, Loaded, Linked, Asked, Greeted, Spelled, Late, CameLate, Lost, StepsAreOf}
-use Rattle.serve_links.specs.Talks.{SaidAsk, first_talk, with_ask, greeted, with_first_answer, turned_late, with_late, given_up, talk_in, IsCalledIn, IsNotAmong, IsAmong, AreDue, AreCalled, AreGivenUp, WasGivenUp, WasLate, FailsFor, MaySettle, MayComeNext, IsOrderly, IsOfClients, IsOfServer}
+use Rattle.serve_links.specs.CoreSteps.{Step, Opened, NotOpened, Fed, Polled, Stopped, Settled, Gave, Closed, LeftLine, Broke, Ticked, Loaded, Linked, Asked, Greeted, Spelled, Late, CameLate, Lost, Noted, StepsAreOf}
+use Rattle.serve_links.specs.Talks.{SaidAsk, InUse, first_talk, with_ask, greeted, with_first_answer, turned_late, with_late, given_up, talk_in, IsCalledIn, IsNotAmong, IsAmong, AreDue, AreCalled, AreGivenUp, WasGivenUp, FailsFor, MaySettle, MayComeNext, IsOrderly, IsOfClients, IsOfServer}
 use Rattle.serve_links.specs.Story.{TellsNone, MayGo, MayAllGo, said_asks}
 use Rattle.serve_links.specs.Called.{call_in, due_in, clock_in, given_in, GivesOnce, GiveOnce}
 use Rattle.serve_links.proofs.Due.{turned, among_first, said_both, due_out, KeepsBut, keeps_settled, own_nowhere}
@@ -60,6 +60,7 @@ IsPlain (Loaded configuration generation) = Unit {0}
 IsPlain (Linked at dialect) = ⊥
 IsPlain (Asked at number dialect ask since) = ⊥
 IsPlain (Greeted at dialect bytes) = ⊥
+IsPlain (Noted at obstacle) = ⊥
 IsPlain (Late at number limit now) = ⊥
 IsPlain (CameLate at number ask answer bytes) = ⊥
 IsPlain (Spelled at number ask answer bytes) = ⊥
@@ -85,6 +86,7 @@ clients_plain (step ∷ steps) kinds = (plain step kinds.0, clients_plain steps 
     plain (Linked at dialect) is = is
     plain (Asked at number dialect ask since) is = is
     plain (Greeted at dialect bytes) is = is
+    plain (Noted at obstacle) is = is
     plain (Late at number limit now) is = is
     plain (CameLate at number ask answer bytes) is = is
     plain (Spelled at number ask answer bytes) is = is
@@ -108,6 +110,7 @@ plain_talk (Loaded configuration generation ∷ steps) kinds past j = plain_talk
 plain_talk (Linked at dialect ∷ steps) kinds past j = absurd kinds.0
 plain_talk (Asked at number dialect ask since ∷ steps) kinds past j = absurd kinds.0
 plain_talk (Greeted at dialect bytes ∷ steps) kinds past j = absurd kinds.0
+plain_talk (Noted at obstacle ∷ steps) kinds past j = absurd kinds.0
 plain_talk (Late at number limit now ∷ steps) kinds past j = absurd kinds.0
 plain_talk (CameLate at number ask answer bytes ∷ steps) kinds past j = absurd kinds.0
 plain_talk (Spelled at number ask answer bytes ∷ steps) kinds past j = absurd kinds.0
@@ -134,6 +137,7 @@ clients_orderly (step ∷ steps) kinds past once o = (follows step (steps ++ pas
     follows (Linked at dialect) before is once = absurd is
     follows (Asked at number dialect ask since) before is once = absurd is
     follows (Greeted at dialect bytes) before is once = absurd is
+    follows (Noted at obstacle) before is once = absurd is
     follows (Late at number limit now) before is once = absurd is
     follows (CameLate at number ask answer bytes) before is once = absurd is
     follows (Spelled at number ask answer bytes) before is once = absurd is
@@ -172,16 +176,6 @@ given_up_later steps past number g = record {
   out = g.out;
 }
 
-late_later : (steps past : List Step) (number : ℕ) → WasLate number past → WasLate number (steps ++ past)
-late_later steps past number g = record {
-  at = g.at;
-  limit = g.limit;
-  now = g.now;
-  later = steps ++ g.later;
-  earlier = g.earlier;
-  was = ap (λ l. steps ++ l) g.was ∙ sym (append_assoc steps g.later (Late g.at number g.limit g.now ∷ g.earlier));
-}
-
 pub all_given_later : (steps past : List Step) (calls : List SaidAsk) → AreGivenUp past calls → AreGivenUp (steps ++ past) calls
 all_given_later steps past [] given = tt
 all_given_later steps past (call ∷ calls) given = (given_up_later steps past call.0 given.0, all_given_later steps past calls given.1)
@@ -197,23 +191,35 @@ given_now past at why limit [] among = tt
 given_now past at why limit (call ∷ calls) among =
     (record { at = at; why = why; limit = limit; later = []; earlier = past; was = refl; out = among call.0 (inl refl) }, given_now past at why limit calls (λ n is. among n (inr is)))
 
--- each of these calls fails for a reason
+-- no server was sent the call of this number, and no connection to its server is in use
+pub record IsUnconnected (number : ℕ) (past : List Step) : Type 0 where
+  pub at : ℕ
+  pub ask : Ask
+  pub due : due_in past number ≡ Some (at, ask)
+  pub apart : (talk_in past at).stands ≢ InUse
+
+-- reasons that stay while others fail
+abbrev pub FailsStill : ℕ → List Step → Type 0
+FailsStill number past = IsUnconnected number past ⊎ WasGivenUp number past
+
+-- each of these calls fails for one
 abbrev pub AllFailFor : List Step → List SaidAsk → Type 0
 AllFailFor past [] = Unit {0}
-AllFailFor past (said ∷ others) = FailsFor said.0 past × AllFailFor past others
+AllFailFor past (said ∷ others) = FailsStill said.0 past × AllFailFor past others
+
+still_reason : (past : List Step) (number : ℕ) → FailsStill number past → FailsFor number past
+still_reason past number (inl none) = inl (record { at = none.at; ask = none.ask; due = none.due; why = inl none.apart })
+still_reason past number (inr given) = inr (inl given)
 
 -- those whose connection was given up
 pub sent_fail : (past : List Step) (calls : List SaidAsk) → AreGivenUp past calls → AllFailFor past calls
 sent_fail past [] given = tt
-sent_fail past (call ∷ calls) given = (inr (inl given.0), sent_fail past calls given.1)
+sent_fail past (call ∷ calls) given = (inr given.0, sent_fail past calls given.1)
 
-pub due_fails : (past : List Step) (number : ℕ) (call : ℕ × Ask) → due_in past number ≡ Some call → FailsFor number past
-due_fails past number call due = inl (subst (λ (o : Option (ℕ × Ask)). IsSome o) (sym due) refl)
-
--- and those that are still to be asked
-pub waiting_fail : (past : List Step) (at : ℕ) (first later : List SentCall) → AreDue past at (said_asks (first ++ later)) → AllFailFor past (said_asks first)
-waiting_fail past at [] later due = tt
-waiting_fail past at (call ∷ first) later due = (due_fails past call.ticket.number (at, call.ticket.ask) due.0, waiting_fail past at first later due.2)
+-- and those that are still to be asked, where none is in use
+pub waiting_fail : (past : List Step) (at : ℕ) (first later : List SentCall) → (talk_in past at).stands ≢ InUse → AreDue past at (said_asks (first ++ later)) → AllFailFor past (said_asks first)
+waiting_fail past at [] later apart due = tt
+waiting_fail past at (call ∷ first) later apart due = (inl (record { at = at; ask = call.ticket.ask; due = due.0; apart = apart }), waiting_fail past at first later apart due.2)
 
 -- the walk that they make as they fail, while none is out there
 pub record FailsInOrder (at : ℕ) (calls : List SentCall) (a b : ServedCore) : Type 0 where
@@ -231,7 +237,7 @@ fails_before at call calls a mid b is rest = record {
   walks = walked rest.steps (step ∷ []) a mid b (a, refl, is) rest.walks;
   keeps = λ past. subst (KeepsBut (said_asks (call ∷ calls)) past) (sym (append_assoc rest.steps (step ∷ []) past)) (keeps past);
   orderly = λ past out fail none o.
-      subst IsOrderly (sym (append_assoc rest.steps (step ∷ []) past)) (rest.orderly (step ∷ past) (still past (said_asks calls) out.1 out.2) (still_fail past (said_asks calls) out.1 fail.1) none ((settles past out.0 none o, fail.0), o));
+      subst IsOrderly (sym (append_assoc rest.steps (step ∷ []) past)) (rest.orderly (step ∷ past) (still past (said_asks calls) out.1 out.2) (still_fail past (said_asks calls) out.1 fail.1) none ((settles past out.0 none o, still_reason past number fail.0), o));
 }
   where
     number : ℕ
@@ -251,10 +257,9 @@ fails_before at call calls a mid b is rest = record {
     still past [] not out = tt
     still past (one ∷ l) not out = ((keeps_settled past number Failed call.dialect call.ticket.ask call.since one.0 (turned not.0, tt)).0 ∙ out.0, out.1, still past l not.1 out.2)
 
-    for_same : (past : List Step) (n : ℕ) → due_in (step ∷ past) n ≡ due_in past n → FailsFor n past → FailsFor n (step ∷ past)
-    for_same past n same (inl due) = inl (subst (λ (o : Option (ℕ × Ask)). IsSome o) (sym same) due)
-    for_same past n same (inr (inl given)) = inr (inl (given_up_later (step ∷ []) past n given))
-    for_same past n same (inr (inr late)) = inr (inr (late_later (step ∷ []) past n late))
+    for_same : (past : List Step) (n : ℕ) → due_in (step ∷ past) n ≡ due_in past n → FailsStill n past → FailsStill n (step ∷ past)
+    for_same past n same (inl none) = inl (record { at = none.at; ask = none.ask; due = same ∙ none.due; apart = none.apart })
+    for_same past n same (inr given) = inr (given_up_later (step ∷ []) past n given)
 
     still_fail : (past : List Step) (l : List SaidAsk) → IsNotAmong number l → AllFailFor past l → AllFailFor (step ∷ past) l
     still_fail past [] not fail = tt
@@ -273,6 +278,7 @@ server_tells_none at (Settled number outcome ∷ steps) own past j = server_tell
 server_tells_none at (Linked a dialect ∷ steps) own past j = server_tells_none at steps own.1 past j
 server_tells_none at (Asked a number dialect ask since ∷ steps) own past j = server_tells_none at steps own.1 past j
 server_tells_none at (Greeted a dialect bytes ∷ steps) own past j = server_tells_none at steps own.1 past j
+server_tells_none at (Noted a obstacle ∷ steps) own past j = server_tells_none at steps own.1 past j
 server_tells_none at (Late a number limit now ∷ steps) own past j = server_tells_none at steps own.1 past j
 server_tells_none at (CameLate a number ask answer bytes ∷ steps) own past j = server_tells_none at steps own.1 past j
 server_tells_none at (Spelled a number ask answer bytes ∷ steps) own past j = server_tells_none at steps own.1 past j
@@ -299,6 +305,7 @@ talk_elsewhere at (Asked a number dialect ask since ∷ steps) own past j other 
     ap (λ b. if b then with_ask number dialect ask since (talk_in (steps ++ past) j) else talk_in (steps ++ past) j) (ap (λ n. nat_eq n j) own.0 ∙ other) ∙ talk_elsewhere at steps own.1 past j other
 talk_elsewhere at (Greeted a dialect bytes ∷ steps) own past j other =
     ap (λ b. if b then greeted dialect bytes (talk_in (steps ++ past) j) else talk_in (steps ++ past) j) (ap (λ n. nat_eq n j) own.0 ∙ other) ∙ talk_elsewhere at steps own.1 past j other
+talk_elsewhere at (Noted a obstacle ∷ steps) own past j other = talk_elsewhere at steps own.1 past j other
 talk_elsewhere at (Spelled a number ask answer bytes ∷ steps) own past j other =
     ap (λ b. if b then with_first_answer bytes (talk_in (steps ++ past) j) else talk_in (steps ++ past) j) (ap (λ n. nat_eq n j) own.0 ∙ other) ∙ talk_elsewhere at steps own.1 past j other
 talk_elsewhere at (Late a number limit now ∷ steps) own past j other =
@@ -339,6 +346,7 @@ clients_clock (Loaded configuration generation ∷ steps) own past = clients_clo
 clients_clock (Linked at dialect ∷ steps) own past = absurd own.0
 clients_clock (Asked at number dialect ask since ∷ steps) own past = absurd own.0
 clients_clock (Greeted at dialect bytes ∷ steps) own past = absurd own.0
+clients_clock (Noted at obstacle ∷ steps) own past = absurd own.0
 clients_clock (Late at number limit now ∷ steps) own past = absurd own.0
 clients_clock (CameLate at number ask answer bytes ∷ steps) own past = absurd own.0
 clients_clock (Spelled at number ask answer bytes ∷ steps) own past = absurd own.0
@@ -362,6 +370,7 @@ server_clock at (Loaded configuration generation ∷ steps) own past = absurd ow
 server_clock at (Linked a dialect ∷ steps) own past = server_clock at steps own.1 past
 server_clock at (Asked a number dialect ask since ∷ steps) own past = server_clock at steps own.1 past
 server_clock at (Greeted a dialect bytes ∷ steps) own past = server_clock at steps own.1 past
+server_clock at (Noted a obstacle ∷ steps) own past = server_clock at steps own.1 past
 server_clock at (Late a number limit now ∷ steps) own past = server_clock at steps own.1 past
 server_clock at (CameLate a number ask answer bytes ∷ steps) own past = server_clock at steps own.1 past
 server_clock at (Spelled a number ask answer bytes ∷ steps) own past = server_clock at steps own.1 past
@@ -385,6 +394,7 @@ sending_clock (Loaded configuration generation ∷ steps) kinds past = absurd ki
 sending_clock (Linked at dialect ∷ steps) kinds past = sending_clock steps kinds.1 past
 sending_clock (Asked at number dialect ask since ∷ steps) kinds past = sending_clock steps kinds.1 past
 sending_clock (Greeted at dialect bytes ∷ steps) kinds past = absurd kinds.0
+sending_clock (Noted at obstacle ∷ steps) kinds past = sending_clock steps kinds.1 past
 sending_clock (Late at number limit now ∷ steps) kinds past = sending_clock steps kinds.1 past
 sending_clock (CameLate at number ask answer bytes ∷ steps) kinds past = absurd kinds.0
 sending_clock (Spelled at number ask answer bytes ∷ steps) kinds past = absurd kinds.0
@@ -408,6 +418,7 @@ sending_given (Loaded configuration generation ∷ steps) kinds past n = absurd 
 sending_given (Linked at dialect ∷ steps) kinds past n = sending_given steps kinds.1 past n
 sending_given (Asked at number dialect ask since ∷ steps) kinds past n = sending_given steps kinds.1 past n
 sending_given (Greeted at dialect bytes ∷ steps) kinds past n = absurd kinds.0
+sending_given (Noted at obstacle ∷ steps) kinds past n = sending_given steps kinds.1 past n
 sending_given (Late at number limit now ∷ steps) kinds past n = sending_given steps kinds.1 past n
 sending_given (CameLate at number ask answer bytes ∷ steps) kinds past n = absurd kinds.0
 sending_given (Spelled at number ask answer bytes ∷ steps) kinds past n = absurd kinds.0

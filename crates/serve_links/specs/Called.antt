@@ -8,7 +8,7 @@ use Rattle.core_proxy.specs.declared.note.Poll.TheVariants as polls
 use Rattle.core_proxy.specs.CoreState.{IsNewCore}
 use Rattle.core_proxy.specs.CallsStay.{CanStand, called}
 use Rattle.core_accepted.specs.declared.served.ServedCore.{ServedCore}
-use Rattle.serve_links.specs.CoreSteps.{Step, Opened, NotOpened, Fed, Polled, Stopped, Settled, Gave, Closed, LeftLine, Broke, Ticked, Loaded, Linked, Asked, Greeted, Spelled, Late, CameLate, Lost, Walks}
+use Rattle.serve_links.specs.CoreSteps.{Step, Opened, NotOpened, Fed, Polled, Stopped, Settled, Gave, Closed, LeftLine, Broke, Ticked, Loaded, Linked, Asked, Greeted, Spelled, Late, CameLate, Lost, Noted, Walks}
 
 -- by a poll that gives out a call of this number it is out, at its server, and asks this
 abbrev pub call_by : Poll → ℕ → Option (ℕ × Ask) → Option (ℕ × Ask)
@@ -38,6 +38,7 @@ call_after (Loaded configuration generation) n call = call
 call_after (Linked at dialect) n call = call
 call_after (Asked at number dialect ask since) n call = call
 call_after (Greeted at dialect bytes) n call = call
+call_after (Noted at obstacle) n call = call
 call_after (Late at number limit now) n call = call
 call_after (CameLate at number ask answer bytes) n call = call
 call_after (Spelled at number ask answer bytes) n call = call
@@ -65,6 +66,7 @@ due_after (Broke client) n call = call
 due_after (Loaded configuration generation) n call = call
 due_after (Linked at dialect) n call = call
 due_after (Greeted at dialect bytes) n call = call
+due_after (Noted at obstacle) n call = call
 due_after (Late at number limit now) n call = call
 due_after (CameLate at number ask answer bytes) n call = call
 due_after (Spelled at number ask answer bytes) n call = call
@@ -92,6 +94,7 @@ clock_after (Broke client) time = time
 clock_after (Loaded configuration generation) time = time
 clock_after (Linked at dialect) time = time
 clock_after (Greeted at dialect bytes) time = time
+clock_after (Noted at obstacle) time = time
 clock_after (Late at number limit now) time = time
 clock_after (CameLate at number ask answer bytes) time = time
 clock_after (Spelled at number ask answer bytes) time = time
@@ -130,6 +133,7 @@ given_after (Broke client) n time given = given
 given_after (Loaded configuration generation) n time given = given
 given_after (Linked at dialect) n time given = given
 given_after (Greeted at dialect bytes) n time given = given
+given_after (Noted at obstacle) n time given = given
 given_after (Late at number limit now) n time given = given
 given_after (CameLate at number ask answer bytes) n time given = given
 given_after (Spelled at number ask answer bytes) n time given = given
@@ -173,6 +177,7 @@ GivesOnce (Loaded configuration generation) past = Unit {0}
 GivesOnce (Linked at dialect) past = Unit {0}
 GivesOnce (Asked at number dialect ask since) past = Unit {0}
 GivesOnce (Greeted at dialect bytes) past = Unit {0}
+GivesOnce (Noted at obstacle) past = Unit {0}
 GivesOnce (Late at number limit now) past = Unit {0}
 GivesOnce (CameLate at number ask answer bytes) past = Unit {0}
 GivesOnce (Spelled at number ask answer bytes) past = Unit {0}

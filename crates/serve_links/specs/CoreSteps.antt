@@ -17,14 +17,23 @@ use Rattle.core_accepted.specs.declared.beginnings.Beginnings.{Beginnings}
 use Rattle.core_accepted.specs.Logs.{LogsGoBy, IsAccepted, IsAcceptedSince, fed}
 use Rattle.core_accepted.specs.Results.{StaysCounting, PollGoes, PollStops}
 use Rattle.core_accepted.specs.declared.served.ServedCore.{ServedCore}
+use Rattle.core_accepted.specs.declared.tally.Unshown.{Unshown}
 use Rattle.core_accepted.specs.Results.{IsSettled}
 use Rattle.core_accepted.specs.Loading.{IsLoaded}
-use Rattle.core_accepted.specs.Tallies.{with_client, with_refusal}
+use Rattle.core_accepted.specs.Tallies.{with_client, with_refusal, with_unshown}
 use Rattle.serve_links.specs.declared.settings.Greeting.{Greeting}
 use Rattle.serve_links.specs.declared.news.Cause.{Cause}
 
+-- what keeps a call from being sent to its server, beside what was said over its connection: the call of this number has waited to go out for longer than so many milliseconds; a store that is out there is awaited, and has taken longer than that; what came over the connection is foreign; or
+-- what nothing shows, for which a connection may be given up too
+pub data Obstacle : Type 0 where
+  WaitedLong : (number limit : ℕ) → Obstacle
+  StoreLate : (limit : ℕ) → Obstacle
+  ForeignCame : Obstacle
+  Unseen : (why : Unshown) → Obstacle
+
 -- one call of a core that changes it, and what came of it; or what changes no core: the clock was looked at, and showed so many milliseconds; a client was broken off, as its connection failed or memory was refused for its bytes; or at a
--- server's a new one was begun, a call's ask is to be sent, its time counting from this one, what the server told of its dialects was taken from its bytes, they spell the answer to a call, a call that is out there is late, by this limit at this time, they spell the answer to such a call, or it was given up, for a cause, or as that was wanted, where it may take so many milliseconds until it takes calls
+-- server's a new one was begun, a call's ask is to be sent, its time counting from this one, what the server told of its dialects was taken from its bytes, they spell the answer to a call, a call that is out there is late, by this limit at this time, they spell the answer to such a call, it was given up, for a cause, or as that was wanted, where it may take so many milliseconds until it takes calls, or an obstacle was noted
 pub data Step : Type 0 where
   Opened : (client : ℕ) → Step
   NotOpened : (fault : CoreFault) → Step
@@ -45,6 +54,14 @@ pub data Step : Type 0 where
   Late : (at number limit now : ℕ) → Step
   CameLate : (at number : ℕ) (ask : Ask) (answer : Answer) (bytes : List ℕ) → Step
   Lost : (at : ℕ) (why : Option Cause) (limit : ℕ) → Step
+  Noted : (at : ℕ) (obstacle : Obstacle) → Step
+
+-- what nothing shows is counted, as the core's own call does that; for other obstacles the core stays
+abbrev pub Notes : Obstacle → ServedCore → ServedCore → Type 0
+Notes (WaitedLong number limit) old new = new ≡ old
+Notes (StoreLate limit) old new = new ≡ old
+Notes ForeignCame old new = new ≡ old
+Notes (Unseen why) old new = (new.core ≡ old.core) × StaysCounting (with_unshown why) old new
 
 -- a core goes from one state to another by this call: as the core's own call of that name goes, and with each log that may have led to it. By what was done at a connection it stays; where bytes
 -- spell the answer to a call, that call of the core is out, and asks this
@@ -66,6 +83,7 @@ Does (Loaded configuration generation) old new = IsLoaded old configuration gene
 Does (Linked at dialect) old new = new ≡ old
 Does (Asked at number dialect ask since) old new = new ≡ old
 Does (Greeted at dialect bytes) old new = new ≡ old
+Does (Noted at obstacle) old new = Notes obstacle old new
 Does (Late at number limit now) old new = new ≡ old
 Does (CameLate at number ask answer bytes) old new = new ≡ old
 Does (Spelled at number ask answer bytes) old new = (new ≡ old) × (of_calls.asked old.core number ≡ Some ask)
@@ -108,6 +126,7 @@ IsOfTurn (Broke client) = Unit {0}
 IsOfTurn (Linked at dialect) = Unit {0}
 IsOfTurn (Asked at number dialect ask since) = Unit {0}
 IsOfTurn (Greeted at dialect bytes) = Unit {0}
+IsOfTurn (Noted at obstacle) = Unit {0}
 IsOfTurn (Late at number limit now) = Unit {0}
 IsOfTurn (CameLate at number ask answer bytes) = Unit {0}
 IsOfTurn (Spelled at number ask answer bytes) = Unit {0}
@@ -130,6 +149,7 @@ IsSettlement (Loaded configuration generation) = ⊥
 IsSettlement (Linked at dialect) = ⊥
 IsSettlement (Asked at number dialect ask since) = ⊥
 IsSettlement (Greeted at dialect bytes) = ⊥
+IsSettlement (Noted at obstacle) = ⊥
 IsSettlement (Late at number limit now) = ⊥
 IsSettlement (CameLate at number ask answer bytes) = ⊥
 IsSettlement (Spelled at number ask answer bytes) = ⊥
@@ -152,12 +172,13 @@ IsFailure (Loaded configuration generation) = ⊥
 IsFailure (Linked at dialect) = ⊥
 IsFailure (Asked at number dialect ask since) = ⊥
 IsFailure (Greeted at dialect bytes) = ⊥
+IsFailure (Noted at obstacle) = ⊥
 IsFailure (Late at number limit now) = ⊥
 IsFailure (CameLate at number ask answer bytes) = ⊥
 IsFailure (Spelled at number ask answer bytes) = ⊥
 IsFailure (Lost at why limit) = ⊥
 
--- a call of a server is to be sent, over a connection that was there or a new one, or is late, or has failed; or a connection is given up for a cause
+-- a call of a server is to be sent, over a connection that was there or a new one, or is late, or has failed, or what keeps it from being sent is noted; or a connection is given up for a cause
 abbrev pub IsSending : Step → Type 0
 IsSending (Settled number outcome) = outcome ≡ Failed
 IsSending (Linked at dialect) = Unit {0}
@@ -174,6 +195,7 @@ IsSending (Ticked now) = ⊥
 IsSending (Broke client) = ⊥
 IsSending (Loaded configuration generation) = ⊥
 IsSending (Greeted at dialect bytes) = ⊥
+IsSending (Noted at obstacle) = Unit {0}
 IsSending (Late at number limit now) = Unit {0}
 IsSending (CameLate at number ask answer bytes) = ⊥
 IsSending (Spelled at number ask answer bytes) = ⊥
@@ -197,6 +219,7 @@ IsGivingUp why (Loaded configuration generation) = ⊥
 IsGivingUp why (Linked at dialect) = ⊥
 IsGivingUp why (Asked at number dialect ask since) = ⊥
 IsGivingUp why (Greeted at dialect bytes) = ⊥
+IsGivingUp why (Noted at obstacle) = ⊥
 IsGivingUp why (Late at number limit now) = ⊥
 IsGivingUp why (CameLate at number ask answer bytes) = ⊥
 IsGivingUp why (Spelled at number ask answer bytes) = ⊥

@@ -16,7 +16,7 @@ use Rattle.core_accepted.specs.Pipes as pipes
 use Rattle.core_accepted.specs.Pipes.{Sends, Moves, Closes, moments_of, behind_first, tickets_after, IsFirstIn, IsInTurn}
 use Rattle.core_accepted.specs.Parts.{ServesPipes, PipesInOrder}
 use Rattle.core_accepted.specs.LateCores.{only_line, EveryLateRunIsFresh}
-use Rattle.serve_links.specs.CoreSteps.{Step, Opened, NotOpened, Fed, Polled, Stopped, Settled, Gave, Closed, LeftLine, Broke, Ticked, Loaded, Linked, Asked, Greeted, Spelled, Late, CameLate, Lost, Does}
+use Rattle.serve_links.specs.CoreSteps.{Step, Opened, NotOpened, Fed, Polled, Stopped, Settled, Gave, Closed, LeftLine, Broke, Ticked, Loaded, Linked, Asked, Greeted, Spelled, Late, CameLate, Lost, Noted, Does}
 use Rattle.serve_links.specs.Called.{TellsCallsOut}
 use Rattle.serve_links.specs.Talks.{Standing, Apart, InUse, Ending, standing_after, IsOrderly}
 
@@ -105,6 +105,7 @@ conns_by (Ticked now) log s conns = conns
 conns_by (Broke client) log s conns = conns
 conns_by (Loaded configuration generation) log s conns = conns
 conns_by (Greeted at spoken bytes) log s conns = conns
+conns_by (Noted at obstacle) log s conns = conns
 conns_by (Late at number limit now) log s conns = conns
 conns_by (CameLate at number ask answer bytes) log s conns = conns
 conns_by (Spelled at number ask answer bytes) log s conns = conns
@@ -196,6 +197,7 @@ with_step (Ticked now) log steps = steps
 with_step (Broke client) log steps = steps
 with_step (Loaded configuration generation) log steps = steps
 with_step (Greeted at spoken bytes) log steps = steps
+with_step (Noted at obstacle) log steps = steps
 with_step (Late at number limit now) log steps = steps
 with_step (CameLate at number ask answer bytes) log steps = steps
 with_step (Spelled at number ask answer bytes) log steps = steps

@@ -1,5 +1,5 @@
 -- What a walk of a core tells of its clients, and how the ends of clients and links on a wire go on with it. Source: mcgate's own.
-use Rattle.std.specs.Prelude.{◌≡◌, ◌≢◌, ℕ, ◌+◌, ◌<◌, IfSome, Bool, true, false, List, [], ◌∷◌, ◌++◌, Option, None, Some, map as each, if◌then◌else◌, nat_eq, slice_get, ◌⊎◌}
+use Rattle.std.specs.Prelude.{◌≡◌, ◌≢◌, ℕ, ◌+◌, ◌<◌, ◌≤◌, IfSome, Bool, true, false, List, [], ◌∷◌, ◌++◌, Option, None, Some, map as each, if◌then◌else◌, nat_eq, slice_get, ◌⊎◌}
 use Rattle.mc_types.specs.declared.ask.Ask.{Ask}
 use Rattle.mc_types.specs.declared.ask.Dialect.{Dialect}
 use Rattle.wire_parts.specs.Sending.{bytes_of}
@@ -19,10 +19,10 @@ use Rattle.serve_links.specs.declared.calls.late_call.LateCall.{LateCall}
 use Rattle.serve_links.specs.declared.link.Link.{Link}
 use Rattle.serve_links.specs.declared.news.Cause.{Cause}
 use Rattle.serve_links.specs.declared.news.Cause.TheVariants as causes
-use Rattle.serve_links.specs.CoreSteps.{Step, Opened, NotOpened, Fed, Polled, Stopped, Settled, Gave, Closed, LeftLine, Broke, Ticked, Loaded, Linked, Asked, Greeted, Spelled, Late, CameLate, Lost, Walks, StepsAreOf}
+use Rattle.serve_links.specs.CoreSteps.{Obstacle, WaitedLong, StoreLate, ForeignCame, Unseen, Step, Opened, NotOpened, Fed, Polled, Stopped, Settled, Gave, Closed, LeftLine, Broke, Ticked, Loaded, Linked, Asked, Greeted, Spelled, Late, CameLate, Lost, Noted, Walks, StepsAreOf}
 use Rattle.serve_links.specs.Shut.{drain_of, AreShut, StaysShut}
 use Rattle.serve_links.specs.Called.{call_in, due_in, clock_in, given_in, TellsCallsOut}
-use Rattle.serve_links.specs.Talks.{SaidAsk, Talk, Apart, Ending, talk_in, IsCalledIn, MayBeAsked, IsStoreFirst, IsNotAmong, AreGivenUp, AreDue, AreCalled, IsOrderly, IsOfClients, IsOfServer}
+use Rattle.serve_links.specs.Talks.{SaidAsk, Talk, Apart, Ending, talk_in, IsCalledIn, MayBeAsked, IsStoreFirst, IsNotAmong, IsNotedFor, AreGivenUp, AreDue, AreCalled, CanNotGo, IsOrderly, IsOfClients, IsOfServer}
 use Rattle.std.specs.Option.{option_map}
 
 -- all that the core was fed for this client since it was opened, by the calls of a walk, the latest first
@@ -43,6 +43,7 @@ fed_in (Loaded configuration generation ∷ steps) i = fed_in steps i
 fed_in (Linked at dialect ∷ steps) i = fed_in steps i
 fed_in (Asked at number dialect ask since ∷ steps) i = fed_in steps i
 fed_in (Greeted at dialect bytes ∷ steps) i = fed_in steps i
+fed_in (Noted at obstacle ∷ steps) i = fed_in steps i
 fed_in (Late at number limit now ∷ steps) i = fed_in steps i
 fed_in (CameLate at number ask answer bytes ∷ steps) i = fed_in steps i
 fed_in (Spelled at number ask answer bytes ∷ steps) i = fed_in steps i
@@ -66,6 +67,7 @@ gave_in (Loaded configuration generation ∷ steps) i = gave_in steps i
 gave_in (Linked at dialect ∷ steps) i = gave_in steps i
 gave_in (Asked at number dialect ask since ∷ steps) i = gave_in steps i
 gave_in (Greeted at dialect bytes ∷ steps) i = gave_in steps i
+gave_in (Noted at obstacle ∷ steps) i = gave_in steps i
 gave_in (Late at number limit now ∷ steps) i = gave_in steps i
 gave_in (CameLate at number ask answer bytes ∷ steps) i = gave_in steps i
 gave_in (Spelled at number ask answer bytes ∷ steps) i = gave_in steps i
@@ -89,6 +91,7 @@ is_open_in (Loaded configuration generation ∷ steps) i = is_open_in steps i
 is_open_in (Linked at dialect ∷ steps) i = is_open_in steps i
 is_open_in (Asked at number dialect ask since ∷ steps) i = is_open_in steps i
 is_open_in (Greeted at dialect bytes ∷ steps) i = is_open_in steps i
+is_open_in (Noted at obstacle ∷ steps) i = is_open_in steps i
 is_open_in (Late at number limit now ∷ steps) i = is_open_in steps i
 is_open_in (CameLate at number ask answer bytes ∷ steps) i = is_open_in steps i
 is_open_in (Spelled at number ask answer bytes ∷ steps) i = is_open_in steps i
@@ -112,6 +115,7 @@ is_broken_in (Loaded configuration generation ∷ steps) i = is_broken_in steps 
 is_broken_in (Linked at dialect ∷ steps) i = is_broken_in steps i
 is_broken_in (Asked at number dialect ask since ∷ steps) i = is_broken_in steps i
 is_broken_in (Greeted at dialect bytes ∷ steps) i = is_broken_in steps i
+is_broken_in (Noted at obstacle ∷ steps) i = is_broken_in steps i
 is_broken_in (Late at number limit now ∷ steps) i = is_broken_in steps i
 is_broken_in (CameLate at number ask answer bytes ∷ steps) i = is_broken_in steps i
 is_broken_in (Spelled at number ask answer bytes ∷ steps) i = is_broken_in steps i
@@ -278,7 +282,14 @@ pub record WasShown (why : Option Cause) (limit at : ℕ) (past : List Step) (h 
 abbrev pub HasShown : ℕ → List WireEvent → Type 0
 HasShown now h = (before : List WireEvent) × Extends before h × (time before ≡ now)
 
--- where a connection is given up by this step, it showed why at some time; and where a call is late, the clock showed by then what it is late by
+-- where what came over a connection is foreign, it showed that at some time
+abbrev pub ObstacleIsShown : Obstacle → (at : ℕ) → List Step → List WireEvent → Type 0
+ObstacleIsShown ForeignCame at past h = WasShown (Some causes.ForeignAnswer) 0 at past h
+ObstacleIsShown (WaitedLong number limit) at past h = Unit {0}
+ObstacleIsShown (StoreLate limit) at past h = Unit {0}
+ObstacleIsShown (Unseen why) at past h = Unit {0}
+
+-- where a connection is given up by this step, or what came over it is foreign, it showed why at some time; and where a call is late, the clock showed by then what it is late by
 abbrev pub StepIsShown : Step → List Step → List WireEvent → Type 0
 StepIsShown (Lost at why limit) past h = WasShown why limit at past h
 StepIsShown (Opened client) past h = Unit {0}
@@ -296,11 +307,12 @@ StepIsShown (Loaded configuration generation) past h = Unit {0}
 StepIsShown (Linked at dialect) past h = Unit {0}
 StepIsShown (Asked at number dialect ask since) past h = Unit {0}
 StepIsShown (Greeted at dialect bytes) past h = Unit {0}
+StepIsShown (Noted at obstacle) past h = ObstacleIsShown obstacle at past h
 StepIsShown (Late at number limit now) past h = HasShown now h
 StepIsShown (CameLate at number ask answer bytes) past h = Unit {0}
 StepIsShown (Spelled at number ask answer bytes) past h = Unit {0}
 
--- where a connection is given up by one of these steps, it showed why at some time; and where a call is late, the clock showed by then what it is late by
+-- where a connection is given up by one of these steps, or what came over it is foreign, it showed why at some time; and where a call is late, the clock showed by then what it is late by
 abbrev pub StepsAreShown : List Step → List WireEvent → Type 0
 StepsAreShown [] h = Unit {0}
 StepsAreShown (step ∷ steps) h = StepIsShown step steps h × StepsAreShown steps h
@@ -309,6 +321,10 @@ StepsAreShown (step ∷ steps) h = StepIsShown step steps h × StepsAreShown ste
 pub record LineFails (why : Option Cause) (at : ℕ) (past : List Step) (h : List WireEvent) (link : Link) : Type 0 where
   pub lost : LineLost at past h link
   pub shows : (conn : Conn) → link.conn ≡ Some conn → ShowsWhy why link.limits.connect_ms (talk_in past at) conn.number h
+
+-- and what nothing shows of that was just noted
+abbrev pub LineLeaves : (why : Option Cause) (at : ℕ) → List Step → List WireEvent → Link → Type 0
+LineLeaves why at past h link = LineFails why at past h link × IsNotedFor why at past
 
 -- what the link holds is foreign
 abbrev pub LineIsForeign : Link → Type 0
@@ -338,7 +354,14 @@ LineState = ((List ℕ × LinkLimits) × ℕ) × Option (ℕ × List ℕ × List
 abbrev pub line_of : Link → LineState
 line_of link = (server_and_opened link, option_map (λ (x : Conn). (x.number, x.held.items, bytes_of x.unsent)) link.conn, said_asks link.calls.sent.items, link.waiting.items, link.awaits_dialect, link.dialect, said_late link.late.items, drain_of link)
 
--- a step by which a call is late tells for how long those of its server may take, and one by which a connection is given up for how long it may take until it takes calls, where this says the limits of each server
+-- a call that waits, or a store, has taken longer than this limit, where there is one
+abbrev pub ObstacleIsByLimit : Option ℕ → Obstacle → Type 0
+ObstacleIsByLimit most (WaitedLong number limit) = most ≡ Some limit
+ObstacleIsByLimit most (StoreLate limit) = most ≡ Some limit
+ObstacleIsByLimit most ForeignCame = Unit {0}
+ObstacleIsByLimit most (Unseen why) = Unit {0}
+
+-- a step by which a call is late, or has waited long, tells for how long those of its server may take, and one by which a connection is given up for how long it may take until it takes calls, where this says the limits of each server
 abbrev pub IsByLimit : (ℕ → Option LinkLimits) → Step → Type 0
 IsByLimit most (Late at number limit now) = option_map (λ (limits : LinkLimits). limits.call_ms) (most at) ≡ Some limit
 IsByLimit most (Opened client) = Unit {0}
@@ -356,6 +379,7 @@ IsByLimit most (Loaded configuration generation) = Unit {0}
 IsByLimit most (Linked at dialect) = Unit {0}
 IsByLimit most (Asked at number dialect ask since) = Unit {0}
 IsByLimit most (Greeted at dialect bytes) = Unit {0}
+IsByLimit most (Noted at obstacle) = ObstacleIsByLimit (option_map (λ (limits : LinkLimits). limits.call_ms) (most at)) obstacle
 IsByLimit most (CameLate at number ask answer bytes) = Unit {0}
 IsByLimit most (Spelled at number ask answer bytes) = Unit {0}
 IsByLimit most (Lost at why limit) = option_map (λ (limits : LinkLimits). limits.connect_ms) (most at) ≡ Some limit
@@ -470,16 +494,20 @@ abbrev pub AgreesSent : ℕ → SentCall → List Step → AnEnd → Type 0
 AgreesSent at call past x =
     Agrees past x × MayGo past at call × ((link : Link) → slice_get x.links at ≡ Some link → AreDue past at (said_asks (call ∷ link.waiting.items))) × AreDue past at (said_asks (call ∷ []))
 
--- a call of this number is still to be asked of some server, and doesn't wait for its link
-pub record IsInHand (number : ℕ) (past : List Step) (links : List Link) : Type 0 where
-  pub at : ℕ
+-- a call of this number is still to be asked of this server, was given out by this time, and doesn't wait for a link
+pub record IsInHand (number at since : ℕ) (past : List Step) (links : List Link) : Type 0 where
   pub ask : Ask
   pub due : due_in past number ≡ Some (at, ask)
+  pub given : given_in past number ≤ since
   pub apart : (link : Link) → slice_get links at ≡ Some link → IsNotAmong number (said_asks link.waiting.items)
 
 -- all agree, and a call of this number is in hand
-abbrev pub AgreesDue : ℕ → List Step → AnEnd → Type 0
-AgreesDue number past x = Agrees past x × IsInHand number past x.links
+abbrev pub AgreesDue : (number at since : ℕ) → List Step → AnEnd → Type 0
+AgreesDue number at since past x = Agrees past x × IsInHand number at since past x.links
+
+-- and it isn't sent, for a reason
+abbrev pub AgreesRefused : (number at since : ℕ) → List Step → AnEnd → Type 0
+AgreesRefused number at since past x = Agrees past x × IsInHand number at since past x.links × CanNotGo number at past
 
 -- by calls of this kind it goes on: where the one held of it and of all calls before, the other holds of it and of all calls after. The links are to the servers that they were to, with the limits that they had, and each call that is late is so by its server's
 pub record AllGoFrom (Before After : List Step → AnEnd → Type 0) (Is : Step → Type 0) (old new : AnEnd) : Type 0 where

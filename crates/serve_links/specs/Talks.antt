@@ -1,5 +1,5 @@
 -- What a walk tells of what was said over each server's connection. Source: mcgate's own.
-use Rattle.std.specs.Prelude.{Option, None, Some, IsSome, ◌≡◌, ◌≢◌, ◌⊎◌, ℕ, ◌+◌, ◌<◌, ◌≤◌, true, false, List, [], ◌∷◌, ◌++◌, nat_eq, length, if◌then◌else◌}
+use Rattle.std.specs.Prelude.{Option, None, Some, ◌≡◌, ◌≢◌, ◌⊎◌, ℕ, ◌+◌, ◌<◌, ◌≤◌, true, false, List, [], ◌∷◌, ◌++◌, nat_eq, length, if◌then◌else◌}
 use Rattle.mc_types.specs.declared.ask.Ask.{Ask}
 use Rattle.mc_types.specs.declared.ask.Dialect.{Dialect}
 use Rattle.mc_types.specs.declared.ask.Dialect.TheVariants.{Classic}
@@ -10,13 +10,15 @@ use Rattle.wire_stream.specs.Spelling.{spelling_of}
 use Rattle.core_accepted.specs.Late.{begins_stamp}
 use Rattle.core_commands.specs.declared.ticket.Ticket.{Ticket}
 use Rattle.core_proxy.specs.declared.note.Poll.TheVariants as polls
+use Rattle.core_accepted.specs.declared.tally.Unshown.{Unshown}
+use Rattle.core_accepted.specs.declared.tally.Unshown.TheVariants as unshown
 use Rattle.serve_links.specs.declared.news.Cause.{Cause}
 use Rattle.serve_links.specs.declared.news.Cause.TheVariants as causes
 use Rattle.serve_links.specs.Dialects.{asked_in, SpellsIn, GreetsAwaited, awaits_flush}
 use Rattle.serve_links.specs.declared.settings.Greeting.{Greeting}
 use Rattle.serve_links.specs.Lines.{first_asked_of, awaits_first, first_dialect}
-use Rattle.serve_links.specs.CoreSteps.{Step, Opened, NotOpened, Fed, Polled, Stopped, Settled, Gave, Closed, LeftLine, Broke, Ticked, Loaded, Linked, Asked, Greeted, Spelled, Late, CameLate, Lost}
-use Rattle.serve_links.specs.Called.{call_in, due_in, given_in, IsGivenOnce}
+use Rattle.serve_links.specs.CoreSteps.{Obstacle, WaitedLong, StoreLate, ForeignCame, Unseen, Step, Opened, NotOpened, Fed, Polled, Stopped, Settled, Gave, Closed, LeftLine, Broke, Ticked, Loaded, Linked, Asked, Greeted, Spelled, Late, CameLate, Lost, Noted}
+use Rattle.serve_links.specs.Called.{call_in, due_in, clock_in, given_in, IsGivenOnce}
 
 -- a call that a server was asked: its number, in which dialect it was asked, its ask, and since when its time counts
 abbrev pub SaidAsk : Type 0
@@ -98,6 +100,7 @@ abbrev pub talk_after : Step → ℕ → Talk → Talk
 talk_after (Linked at dialect) i talk = if nat_eq at i then first_talk dialect else talk
 talk_after (Asked at number dialect ask since) i talk = if nat_eq at i then with_ask number dialect ask since talk else talk
 talk_after (Greeted at dialect bytes) i talk = if nat_eq at i then greeted dialect bytes talk else talk
+talk_after (Noted at obstacle) i talk = talk
 talk_after (Late at number limit now) i talk = if nat_eq at i then turned_late talk else talk
 talk_after (CameLate at number ask answer bytes) i talk = if nat_eq at i then with_late bytes talk else talk
 talk_after (Spelled at number ask answer bytes) i talk = if nat_eq at i then with_first_answer bytes talk else talk
@@ -138,6 +141,18 @@ pub record MayBeAsked (steps : List Step) (number at : ℕ) (dialect : Dialect) 
   pub parts : steps ≡ later ++ earlier
   pub called : IsCalledIn earlier number at ask
   pub speaks : (talk_in earlier at).dialect ≡ dialect
+
+-- where it is given up as there was no room for what came, that was noted in the last step
+abbrev pub IsNotedFor : Option Cause → (at : ℕ) → List Step → Type 0
+IsNotedFor None at steps = Unit {0}
+IsNotedFor (Some causes.Unreachable) at steps = Unit {0}
+IsNotedFor (Some causes.ConnectLate) at steps = Unit {0}
+IsNotedFor (Some causes.AnswerLate) at steps = Unit {0}
+IsNotedFor (Some causes.Closed) at steps = Unit {0}
+IsNotedFor (Some causes.Broken) at steps = Unit {0}
+IsNotedFor (Some causes.ForeignAnswer) at steps = Unit {0}
+IsNotedFor (Some causes.NoRoom) at steps = (earlier : List Step) × (steps ≡ Noted at (Unseen unshown.NoRoom) ∷ earlier)
+IsNotedFor (Some causes.VainReads) at steps = Unit {0}
 
 -- none of these calls has this number
 abbrev pub IsNotAmong : ℕ → List SaidAsk → Type 0
@@ -230,9 +245,51 @@ abbrev pub AreGivenUp : List Step → List SaidAsk → Type 0
 AreGivenUp steps [] = Unit {0}
 AreGivenUp steps (said ∷ others) = WasGivenUp said.0 steps × AreGivenUp steps others
 
--- why the call of this number fails: it is still to be asked, so that no server was sent any of it; or its connection was given up while it was out there; or it was late. None fails whose answer came
+-- what nothing shows keeps any call from being sent, but that there was no room for what came: by that a connection is given up
+abbrev pub KeepsBack : Unshown → Type 0
+KeepsBack unshown.NoMemory = Unit {0}
+KeepsBack unshown.Retired = Unit {0}
+KeepsBack unshown.LeftAlone = Unit {0}
+KeepsBack unshown.NoRoom = ⊥
+
+-- an obstacle keeps the call of this number from being sent
+abbrev pub IsFor : ℕ → Obstacle → Type 0
+IsFor n (WaitedLong number limit) = number ≡ n
+IsFor n (StoreLate limit) = Unit {0}
+IsFor n ForeignCame = Unit {0}
+IsFor n (Unseen why) = KeepsBack why
+
+-- in the last step an obstacle was noted of this server that keeps the call of this number from being sent
+pub record IsKeptBack (number at : ℕ) (steps : List Step) : Type 0 where
+  pub obstacle : Obstacle
+  pub earlier : List Step
+  pub last : steps ≡ Noted at obstacle ∷ earlier
+  pub is_for : IsFor number obstacle
+
+-- why the call of this number isn't sent to this server: no connection to it is in use, answers are to come first of calls that were late, it is still to empty itself, or an obstacle was just noted
+abbrev pub CanNotGo : (number at : ℕ) → List Step → Type 0
+CanNotGo number at steps = ((talk_in steps at).stands ≢ InUse) ⊎ ((talk_in steps at).late ≢ []) ⊎ (awaits_flush (talk_in steps at).awaits ≡ true) ⊎ IsKeptBack number at steps
+
+-- the call of this number is still to be asked of a server, so that none was sent any of it, and isn't sent for a reason
+pub record IsUnsent (number : ℕ) (steps : List Step) : Type 0 where
+  pub at : ℕ
+  pub ask : Ask
+  pub due : due_in steps number ≡ Some (at, ask)
+  pub why : CanNotGo number at steps
+
+-- why the call of this number fails: it isn't sent, for a reason; or its connection was given up while it was out there; or it was late. None fails whose answer came
 abbrev pub FailsFor : ℕ → List Step → Type 0
-FailsFor number steps = IsSome (due_in steps number) ⊎ WasGivenUp number steps ⊎ WasLate number steps
+FailsFor number steps = IsUnsent number steps ⊎ WasGivenUp number steps ⊎ WasLate number steps
+
+-- an obstacle may be noted of this server: the call is still to be asked and was given out longer before than it may wait; a store is the first of the calls that are out there, and one of them has taken longer than it may; and where a server is left alone, another call tries it
+abbrev pub IsTold : Obstacle → (at : ℕ) → List Step → Type 0
+IsTold (WaitedLong number limit) at past = given_in past number + limit < clock_in past
+IsTold (StoreLate limit) at past = IsStoreFirst (talk_in past at).out × HasWaited limit (clock_in past) (talk_in past at).out
+IsTold ForeignCame at past = Unit {0}
+IsTold (Unseen unshown.LeftAlone) at past = (talk_in past at).out ≢ []
+IsTold (Unseen unshown.NoMemory) at past = Unit {0}
+IsTold (Unseen unshown.Retired) at past = Unit {0}
+IsTold (Unseen unshown.NoRoom) at past = Unit {0}
 
 -- the core has a call of this number out, and no server has it, or has it any more
 pub record MaySettle (number : ℕ) (steps : List Step) : Type 0 where
@@ -246,16 +303,17 @@ ComesBy number (Answered answer) past = IsJustSpelled number answer past
 ComesBy number Failed past = FailsFor number past
 
 -- after these steps this one may come: a connection is begun where none is there, also none whose end is awaited; a server is asked what the core gave out for it last under that number, once, in a dialect that it speaks, its time counting from then or later, and neither while late answers are still to come nor before it said that it emptied itself where it is to do that first; tells of its dialects where it is asked for that, and then answers its calls in
--- their order, those that are late too, whose answers settle nothing; the first of those that are out is late once one of them, or of those that were late before it, has waited too long; a call is settled that no server has, by its answer, or as it failed for a reason; and none is given out while one of its number is out
+-- their order, those that are late too, whose answers settle nothing; the first of those that are out is late once one of them, or of those that were late before it, has waited too long; a call is settled that no server has, by its answer, or as it failed for a reason; an obstacle is noted that is there; a connection is given up for want of room where that was just noted; and none is given out while one of its number is out
 abbrev pub MayComeNext : Step → List Step → Type 0
 MayComeNext (Asked at number dialect ask since) past = MayBeAsked past number at dialect ask × (due_in past number ≡ Some (at, ask)) × ((talk_in past at).late ≡ []) × (awaits_flush (talk_in past at).awaits ≡ false) × (given_in past number ≤ since)
 MayComeNext (Greeted at dialect bytes) past = GreetsAwaited (talk_in past at).awaits dialect bytes
+MayComeNext (Noted at obstacle) past = IsTold obstacle at past
 MayComeNext (Late at number limit now) past = IsFirstOut number (talk_in past at) × HasWaited limit now ((talk_in past at).late ++ (talk_in past at).out)
 MayComeNext (CameLate at number ask answer bytes) past = IsNextLate number ask answer bytes (talk_in past at)
 MayComeNext (Spelled at number ask answer bytes) past = IsNextAnswer number ask answer bytes (talk_in past at)
 MayComeNext (Settled number outcome) past = MaySettle number past × ComesBy number outcome past
 MayComeNext (Linked at dialect) past = (talk_in past at).stands ≡ Apart
-MayComeNext (Lost at why limit) past = Unit {0}
+MayComeNext (Lost at why limit) past = IsNotedFor why at past
 MayComeNext (Opened client) past = Unit {0}
 MayComeNext (NotOpened fault) past = Unit {0}
 MayComeNext (Fed client piece) past = Unit {0}
@@ -290,6 +348,7 @@ IsOfClients (Settled number outcome) = ⊥
 IsOfClients (Linked at dialect) = ⊥
 IsOfClients (Asked at number dialect ask since) = ⊥
 IsOfClients (Greeted at dialect bytes) = ⊥
+IsOfClients (Noted at obstacle) = ⊥
 IsOfClients (Late at number limit now) = ⊥
 IsOfClients (CameLate at number ask answer bytes) = ⊥
 IsOfClients (Spelled at number ask answer bytes) = ⊥
@@ -301,6 +360,7 @@ IsOfServer i (Settled number outcome) = Unit {0}
 IsOfServer i (Linked at dialect) = at ≡ i
 IsOfServer i (Asked at number dialect ask since) = at ≡ i
 IsOfServer i (Greeted at dialect bytes) = at ≡ i
+IsOfServer i (Noted at obstacle) = at ≡ i
 IsOfServer i (Late at number limit now) = at ≡ i
 IsOfServer i (CameLate at number ask answer bytes) = at ≡ i
 IsOfServer i (Spelled at number ask answer bytes) = at ≡ i

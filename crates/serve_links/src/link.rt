@@ -1,6 +1,6 @@
 //! One server's link: its connection, if it has one, and the calls that are out.
 
-ghost use Rattle.std.specs.Prelude.{◌≡◌, ◌≢◌, ◌⊎◌, not, true, IfSome, IsSome, ◌+◌, ◌<◌, ◌++◌, false, ◌∷◌, [], None, length, MatchOption, IfOk, IfErr, OnOk, OnErr, option_map};
+ghost use Rattle.std.specs.Prelude.{◌≡◌, ℕ, ◌≢◌, ◌⊎◌, not, true, IfSome, IsSome, ◌+◌, ◌<◌, ◌++◌, false, ◌∷◌, [], None, length, MatchOption, IfOk, IfErr, OnOk, OnErr, option_map};
 ghost use Rattle.mc_types.specs.declared.ask.Dialect.TheVariants.{Classic};
 ghost use Rattle.serve_links.specs.Links.{IsDown, CallIsTaken, vain_cause};
 ghost use Rattle.serve_links.specs.Calls.{stores_first};
@@ -8,7 +8,7 @@ ghost use Rattle.serve_links.specs.Lateness.{HasLate, awaits_store, AwaitsLate, 
 ghost use Rattle.wire_parts.specs.Sending.{bytes_of};
 ghost use Rattle.serve_links.specs.Dialects.{awaits_flush};
 ghost use Rattle.serve_links.specs.Talks.{HasWaited};
-ghost use Rattle.serve_links.specs.Unsent.{IsStoreLate, IsServerLate, HoldsBack, TakesCalls, WaitsTooLong};
+ghost use Rattle.serve_links.specs.Unsent.{IsStoreLate, IsServerLate, HoldsBack, TakesCalls, WaitsTooLong, IsRefused, FirstIs};
 ghost use Rattle.serve_links.specs.Epochs.{is_retired, with_retired, LinkIsQuiet};
 ghost use Rattle.serve_links.specs.Lines.{dialect_asked, flush_asked, first_asked_of, asks_dialect, awaits_first, first_dialect, greeting_of, KeepsLines, HasNewEnd, OpensLink, Learns, ended_by_read, DrainsOne, DrainsBy};
 ghost use Rattle.serve_links.specs.Story.{said_asks, line_of, LineIsForeign};
@@ -17,8 +17,10 @@ ghost use Rattle.serve_links.specs.Shut.{conn_of};
 use crate::calls::{LateCall, LinkCalls, SentCall};
 use crate::greeting::{read_greeting, write_flush};
 use crate::news::{Cause, LinkNews};
+use crate::refusal::{NotSent, Refusal};
 use crate::settings::{Greeting, LinkLimits, ServerDialect, Settings};
 use crate::tally::LinkTally;
+use core_accepted::Unshown;
 use mc_types::Dialect;
 use serve_clients::Clients;
 use serve_wire::conn::{Conn, Got, Limits};
@@ -514,29 +516,57 @@ impl Link {
         self.waiting.remove(place)
     }
 
-    /// The first of the calls that wait, if it has waited too long to go out, by the clock of calls that wait, or none goes out for now.
-    pub fn next_too_late(&mut self, pace: u64) -> Option<SentCall>
-        ensures waiting { MatchOption result (self.new.waiting.items ≡ self.old.waiting.items) (λ call. self.old.waiting.items ≡ call ∷ self.new.waiting.items) }
+    /// The first of the calls that wait, if it has waited too long to go out, by the clock of calls that wait and by the wire's, which shows `now`, or none goes out for now; and why.
+    pub fn next_too_late(&mut self, pace: u64, now: u64) -> Option<NotSent>
+        ensures waiting { MatchOption result (self.new.waiting.items ≡ self.old.waiting.items) (λ it. self.old.waiting.items ≡ it.call ∷ self.new.waiting.items) }
+        ensures refused { IfSome result (λ it. IsRefused it.why it.call.since now self.new) }
         ensures late { IsSome result → WaitsTooLong pace self.old }
         ensures rest { self.new ≡ record self.old { waiting = self.new.waiting } }
     {
-        if !self.has_waited_long(pace) {
-            return None;
-        }
-        self.next_waiting()
+        let why = self.first_refusal(pace, now)?;
+        let call = self.next_waiting()?;
+        Some(NotSent { call, why })
     }
 
-    // Whether the first of those that wait has waited so long, or its server is late.
-    fn has_waited_long(&self, pace: u64) -> bool
-        ensures { result ≡ true → WaitsTooLong pace self.now }
+    // Why the first of those that wait waits no longer, if it doesn't.
+    fn first_refusal(&self, pace: u64, now: u64) -> Option<Refusal>
+        ensures refused { IfSome result (λ why. FirstIs (λ call. IsRefused why call.since now self.now) self.now.waiting.items) }
+        ensures late { IsSome result → WaitsTooLong pace self.now }
     {
-        if self.is_late() {
-            return true;
+        match self.line_refusal(now) {
+            None if self.has_waited_long(pace, now) => Some(Refusal::WaitedLong),
+            refusal => refusal,
         }
-        match self.waiting.front() {
-            Some(call) => call.paced.saturating_add(self.limits.call_ms) < pace,
-            None => false,
+    }
+
+    // Why no call goes out for now by what is out there, if none does: there is no connection, or the server is late.
+    fn line_refusal(&self, now: u64) -> Option<Refusal>
+        ensures refused { IfSome result (λ why. (since : ℕ) → IsRefused why since now self.now) }
+        ensures late { IsSome result → (self.now.conn ≡ None) ⊎ IsServerLate self.now }
+        ensures none { result ≡ None → IsSome self.now.conn × (self.now.late.items ≡ []) }
+    {
+        if self.conn.is_none() {
+            return Some(Refusal::NoConnection);
         }
+        if self.awaits_late() {
+            return Some(Refusal::ServerLate);
+        }
+        if self.is_stalled() && self.has_late(now) {
+            return Some(Refusal::StoreLate);
+        }
+        None
+    }
+
+    // Whether the first of those that wait has waited so long by both clocks.
+    fn has_waited_long(&self, pace: u64, now: u64) -> bool
+        ensures paced { result ≡ true → FirstIs (λ call. call.paced + self.now.limits.call_ms < pace) self.now.waiting.items × (self.now.waiting.items ≢ []) }
+        ensures since { result ≡ true → FirstIs (λ call. call.since + self.now.limits.call_ms < now) self.now.waiting.items }
+    {
+        let Some(call) = self.waiting.front() else {
+            return false;
+        };
+        let most = self.limits.call_ms;
+        call.paced.saturating_add(most) < pace && call.since.saturating_add(most) < now
     }
 
     /// Until when the first of those that wait may wait, in milliseconds.
@@ -701,9 +731,28 @@ impl Link {
         self.stand()
     }
 
-    /// Whether a call fails at once: its server is late, or the end of a connection is awaited, or no call goes out any more; or the server failed too many times in a row, and either it isn't to be tried
-    /// yet, or a call tries.
-    pub fn is_held_back(&self, now: u64) -> bool
+    /// Why a call fails at once, if it does. Without a connection none is begun while the server is late, the end of one is awaited, no call goes out any more, or the server failed too many
+    /// times in a row and isn't to be tried yet. With one none goes out while the server is late, or no call does any more, or it failed that often and a call tries it.
+    pub fn refusal(&self, now: u64) -> Option<Refusal>
+        ensures refused { IfSome result (λ why. (since : ℕ) → IsRefused why since now self.now) }
+        ensures free { result ≡ None → TakesCalls now self.now }
+        ensures retired { is_retired self.now ≡ true → IsSome result }
+    {
+        if self.conn.is_none() {
+            return if self.is_held_back(now) {
+                Some(Refusal::NoConnection)
+            } else {
+                None
+            };
+        }
+        match self.line_refusal(now) {
+            None => self.unseen_refusal(),
+            refusal => refusal,
+        }
+    }
+
+    // Whether no connection is begun for now.
+    fn is_held_back(&self, now: u64) -> bool
         ensures back { result ≡ true → HoldsBack now self.now }
         ensures free { result ≡ false → TakesCalls now self.now }
         ensures retired { is_retired self.now ≡ true → result ≡ true }
@@ -712,6 +761,21 @@ impl Link {
             return true;
         }
         self.limits.fail_limit <= self.failures && (now < self.held_until || !self.calls.is_empty())
+    }
+
+    // Why no call goes out over a connection though nothing shows it, if none does: it is retired, or its server is left alone, as it failed too many times in a row and a call tries it.
+    fn unseen_refusal(&self) -> Option<Refusal>
+        ensures refused { IsSome self.now.conn → IfSome result (λ why. (since now : ℕ) → IsRefused why since now self.now) }
+        ensures free { result ≡ None → (is_retired self.now ≡ false) × ((self.now.failures < self.now.limits.fail_limit) ⊎ (self.now.calls.sent.items ≡ [])) }
+        ensures retired { is_retired self.now ≡ true → IsSome result }
+    {
+        if self.is_retired {
+            return Some(Refusal::Unseen(Unshown::Retired));
+        }
+        if self.limits.fail_limit <= self.failures && !self.calls.is_empty() {
+            return Some(Refusal::Unseen(Unshown::LeftAlone));
+        }
+        None
     }
 
     /// A read brought whole answers, or none. Whether it has failed by that: where calls are out, and so many reads in a row brought none. That its

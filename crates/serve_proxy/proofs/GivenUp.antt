@@ -19,16 +19,19 @@ use Rattle.serve_links.specs.declared.news.Cause.TheVariants as causes
 use Rattle.serve_links.specs.Calls.{stores_first}
 use Rattle.serve_links.specs.Lateness.{AwaitsLate, IsConnectLate, IsConnectLateAt}
 use Rattle.serve_links.specs.Links.{vain_cause}
-use Rattle.serve_links.specs.CoreSteps.{Step, Opened, NotOpened, Fed, Polled, Stopped, Settled, Gave, Closed, LeftLine, Broke, Ticked, Loaded, Linked, Asked, Greeted, Spelled, Late, CameLate, Lost, Walks, StepsAreOf, IsOfTurn, IsGivingUp, IsSending, OnlyFails, GoesBy}
-use Rattle.serve_links.specs.Talks.{SaidAsk, IsStoreFirst, talk_in}
-use Rattle.serve_links.specs.Story.{address_and_opened, said_asks, said_late, line_of, IsForeign, LineIsForeign, LineAgrees, LineLost, LineFails, LineGoesFrom, AnEnd, Agrees, AgreesBut, AllGoFrom, ShowsWhy}
-use Rattle.serve_links.proofs.LinkGoes.{as_failing, line_between, line_keeps}
+use Rattle.core_accepted.specs.declared.tally.Unshown.TheVariants as unshown
+use Rattle.serve_links.specs.Unsent.{NotesCause}
+use Rattle.serve_links.proofs.Called.{walks_tell_calls}
+use Rattle.serve_links.specs.CoreSteps.{Unseen, Notes, Step, Opened, NotOpened, Fed, Polled, Stopped, Settled, Gave, Closed, LeftLine, Broke, Ticked, Loaded, Linked, Asked, Greeted, Spelled, Late, CameLate, Lost, Noted, Walks, StepsAreOf, IsOfTurn, IsGivingUp, IsSending, OnlyFails}
+use Rattle.serve_links.specs.Talks.{SaidAsk, IsStoreFirst, IsNotedFor, talk_in}
+use Rattle.serve_links.specs.Story.{fed_in, gave_in, address_and_opened, said_asks, said_late, line_of, IsForeign, LineIsForeign, LineAgrees, LineLost, LineFails, LineLeaves, LineGoesFrom, AnEnd, Agrees, AgreesBut, AllGoFrom, ShowsWhy}
+use Rattle.serve_links.proofs.LinkGoes.{as_failing, noted_fails, line_between, line_keeps}
 use Rattle.serve_links.proofs.ByLimits.{servers_same}
 use Rattle.serve_links.proofs.Foreign.{fails_foreign, none_awaited}
-use Rattle.serve_links.proofs.Story.{go_between, all_but, but_all}
+use Rattle.serve_links.proofs.Story.{all_told, line_stays, go_between, all_but, but_all}
 use Rattle.serve_proxy.specs.declared.sockets.Sockets.{Sockets}
 use Rattle.serve_proxy.specs.Ends.{end_of, over_by, over_of, idle_cause, broken_unless, AwaitsNothing, AwaitsLateAt, LineUnless, LineStandsUnless, EndsGoFrom, AgreesUnless, AllGoOn, AllGoUnless}
-use Rattle.serve_proxy.proofs.Going.{and_then, stays, line_lends}
+use Rattle.serve_proxy.proofs.Going.{and_then, stays, line_lends, agree_told, had_quiet}
 use Rattle.serve_proxy.proofs.Staying.{stay_clients}
 use Rattle.serve_proxy.proofs.Linking.{but_clients}
 
@@ -42,7 +45,7 @@ said_none (call ∷ calls) e = absurd (some_said (call.ticket.number, call.diale
     some_said said others none = cc
 
 -- calls that are out were said
-out_some : (at : ℕ) (past : List Step) (h : List WireEvent) (y : Link) (conn : Conn) → LineAgrees at past h y → y.conn ≡ Some conn → y.calls.sent.items ≢ [] → (talk_in past at).out ≢ []
+pub out_some : (at : ℕ) (past : List Step) (h : List WireEvent) (y : Link) (conn : Conn) → LineAgrees at past h y → y.conn ≡ Some conn → y.calls.sent.items ≢ [] → (talk_in past at).out ≢ []
 out_some at past h y conn a there some none = some (said_none y.calls.sent.items (sym (a.conn conn there).out_is ∙ none))
 
 -- too many reads were in vain, or not
@@ -129,8 +132,8 @@ unless_clients (Some cause) at cs cs' g keeps = but_clients at cs cs' g keeps
 -- one is given up
 pub line_given_up :
     {Is : Step → Type 0} {h h' : List WireEvent} {cs : Clients} {a b : ServedCore} (why : Option Cause) (links : List Link) (at : ℕ) (x y : Link) → at < length links → x ≡ get_or links at x
-    → LineGoesFrom (LineFails why) LineAgrees Is at a h x b h' y
-    → AllGoFrom (AgreesBut (LineFails why) at) Agrees Is (record { core = a; history = h; clients = cs; links = links }) (record { core = b; history = h'; clients = cs; links = set links at y })
+    → LineGoesFrom (LineLeaves why) LineAgrees Is at a h x b h' y
+    → AllGoFrom (AgreesBut (LineLeaves why) at) Agrees Is (record { core = a; history = h; clients = cs; links = links }) (record { core = b; history = h'; clients = cs; links = set links at y })
 line_given_up {h = h} {h' = h'} {cs = cs} {a = a} {b = b} why links at x y within was g =
     go_between (λ past all. all) (λ past all. but_all at past (record { core = b; history = h'; clients = cs; links = set links at y }) all) (line_lends links at x y within was g)
 
@@ -165,7 +168,7 @@ late_some at past h y conn a there some none = some (none_said y.late.items (sym
         some_said said others none = cc
 
 -- or whose first call is a store
-store_said : (calls : List SentCall) → stores_first calls ≡ true → IsStoreFirst (said_asks calls)
+pub store_said : (calls : List SentCall) → stores_first calls ≡ true → IsStoreFirst (said_asks calls)
 store_said [] e = absurd (false_true e)
   where
     false_true : false ≡ true → ⊥
@@ -189,8 +192,61 @@ unanswered {a = a} at awaits g = go_between (λ past was. failing_at (Some cause
 pub no_room_at : (at : ℕ) (past : List Step) (x : AnEnd) → Agrees past x → AgreesBut (LineFails (Some causes.NoRoom)) at past x
 no_room_at at past x was = failing_at (Some causes.NoRoom) at past x (λ link there. as_failing (Some causes.NoRoom) at past x.history link (λ conn is. tt) (was.links at link there)) was
 
-pub wanted : {Q : List Step → AnEnd → Type 0} {Is : Step → Type 0} {a b : AnEnd} (at : ℕ) → AllGoFrom (AgreesBut (LineFails None) at) Q Is a b → AllGoFrom Agrees Q Is a b
-wanted {a = a} at g = go_between (λ past was. failing_at None at past a (λ link there. as_failing None at past a.history link (λ conn is. tt) (was.links at link there)) was) (λ past was. was) g
+-- it is given up then, once what nothing shows was noted
+leaves : (why : Option Cause) (at : ℕ) (past : List Step) (x : AnEnd) → IsNotedFor why at past → AgreesBut (LineFails why) at past x → AgreesBut (LineLeaves why) at past x
+leaves why at past x noted a =
+    record { orderly = a.orderly; calls = a.calls; clients = a.clients; told = a.told; links = λ j link other there. a.links j link other there; this = λ link there. (a.this link there, noted); gone = a.gone; shown = a.shown; shut = a.shut; unlinked = a.unlinked; clock = a.clock }
+
+pub wanted : {Q : List Step → AnEnd → Type 0} {Is : Step → Type 0} {a b : AnEnd} (at : ℕ) → AllGoFrom (AgreesBut (LineLeaves None) at) Q Is a b → AllGoFrom Agrees Q Is a b
+wanted {a = a} at g =
+    go_between (λ past was. leaves None at past a tt (failing_at None at past a (λ link there. as_failing None at past a.history link (λ conn is. tt) (was.links at link there)) was)) (λ past was. was) g
+
+module _ (h : List WireEvent) (cs : Clients) (ls : List Link) (at : ℕ) where
+  abbrev IsNoted : Cause → ServedCore → ServedCore → Type 0
+  IsNoted cause a b =
+      AllGoFrom (AgreesBut (LineFails (Some cause)) at) (AgreesBut (LineLeaves (Some cause)) at) IsSending (record { core = a; history = h; clients = cs; links = ls }) (record { core = b; history = h; clients = cs; links = ls })
+
+  none_noted : (cause : Cause) (a b : ServedCore) → b ≡ a → ((past : List Step) → IsNotedFor (Some cause) at past) → IsNoted cause a b
+  none_noted cause a b same noted = subst (IsNoted cause a) (sym same) (record {
+    steps = [];
+    kinds = tt;
+    walks = refl;
+    agree = λ past was. leaves (Some cause) at past (record { core = a; history = h; clients = cs; links = ls }) (noted past) was;
+    servers = servers_same ls ls refl;
+  })
+
+  no_room_noted : (a b : ServedCore) → Notes (Unseen unshown.NoRoom) a b → IsNoted causes.NoRoom a b
+  no_room_noted a b does =
+      let step : Step = Noted at (Unseen unshown.NoRoom) in
+      record {
+        steps = step ∷ [];
+        kinds = (tt, tt);
+        walks = (a, refl, does);
+        agree = λ past was. record {
+          orderly = (tt, was.orderly);
+          calls = (walks_tell_calls.goes_on (step ∷ []) past a b was.calls (a, refl, does)).0;
+          clients = agree_told h (fed_in past) (gave_in past) (fed_in (step ∷ past)) (gave_in (step ∷ past)) cs (λ j. (refl, refl)) was.clients;
+          told = all_told past (step ∷ []) cs (λ j. (refl, refl, refl, refl)) was.told;
+          links = λ j link other there. line_stays h h j (step ∷ []) past link (λ c of_c. untouched c h) refl (λ n ask is. (refl, refl, refl)) (was.links j link other there);
+          this = λ link there. (noted_fails (Some causes.NoRoom) at (Unseen unshown.NoRoom) past h link (was.this link there), past, refl);
+          gone = λ conn id of_id. had_quiet past (step ∷ []) h h cs cs id conn (untouched conn h) refl of_id was.gone;
+          shown = (tt, was.shown);
+          shut = was.shut;
+          unlinked = was.unlinked;
+          clock = was.clock;
+        };
+        servers = record { same = refl; late = (tt, tt) };
+      }
+
+  pub cause_noted : (cause : Cause) (a b : ServedCore) → NotesCause cause a b → IsNoted cause a b
+  cause_noted causes.Unreachable a b notes = none_noted causes.Unreachable a b notes (λ past. tt)
+  cause_noted causes.ConnectLate a b notes = none_noted causes.ConnectLate a b notes (λ past. tt)
+  cause_noted causes.AnswerLate a b notes = none_noted causes.AnswerLate a b notes (λ past. tt)
+  cause_noted causes.Closed a b notes = none_noted causes.Closed a b notes (λ past. tt)
+  cause_noted causes.Broken a b notes = none_noted causes.Broken a b notes (λ past. tt)
+  cause_noted causes.ForeignAnswer a b notes = none_noted causes.ForeignAnswer a b notes (λ past. tt)
+  cause_noted causes.NoRoom a b notes = no_room_noted a b notes
+  cause_noted causes.VainReads a b notes = none_noted causes.VainReads a b notes (λ past. tt)
 
 -- of the core nothing is asked but that calls fail
 pub fails_of : (why : Option Cause) (steps : List Step) (a b : ServedCore) → StepsAreOf (IsGivingUp why) steps → Walks steps a b → OnlyFails a b
@@ -212,6 +268,7 @@ fails_of why (Loaded configuration generation ∷ steps) a b kinds walks = absur
 fails_of why (Linked at dialect ∷ steps) a b kinds walks = absurd kinds.0
 fails_of why (Asked at number dialect ask since ∷ steps) a b kinds walks = absurd kinds.0
 fails_of why (Greeted at dialect bytes ∷ steps) a b kinds walks = absurd kinds.0
+fails_of why (Noted at obstacle ∷ steps) a b kinds walks = absurd kinds.0
 fails_of why (Late at number limit now ∷ steps) a b kinds walks = absurd kinds.0
 fails_of why (CameLate at number ask answer bytes ∷ steps) a b kinds walks = absurd kinds.0
 fails_of why (Spelled at number ask answer bytes ∷ steps) a b kinds walks = absurd kinds.0

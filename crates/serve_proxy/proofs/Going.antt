@@ -10,7 +10,7 @@ use Rattle.mc_types.specs.declared.ask.Dialect.TheVariants.{Classic}
 use Rattle.mc_types.specs.declared.call.Outcome.TheVariants.{Failed}
 use Rattle.fresh_runs.specs.Overlap as log
 use Rattle.wire_parts.specs.Sending.{bytes_of}
-use Rattle.serve_wire.specs.Events.{WireEvent, role, taken}
+use Rattle.serve_wire.specs.Events.{WireEvent, role, taken, time}
 use Rattle.serve_wire.specs.Agreement.{TouchesOnly, IsUntouched}
 use Rattle.serve_wire.proofs.Steps.{untouched, only_twice}
 use Rattle.core_proxy.specs.declared.fault.CoreFault.{CoreFault}
@@ -34,14 +34,14 @@ use Rattle.serve_links.specs.declared.calls.calls.SentCall.{SentCall}
 use Rattle.serve_links.specs.declared.settings.LinkLimits.{LinkLimits}
 use Rattle.serve_links.specs.declared.link.Link.{Link}
 use Rattle.serve_links.specs.declared.news.Cause.{Cause}
-use Rattle.serve_links.specs.CoreSteps.{Step, Opened, NotOpened, Fed, Polled, Stopped, Settled, Gave, Closed, LeftLine, Broke, Ticked, Loaded, Linked, Asked, Greeted, Spelled, Late, CameLate, Lost, Does, Walks, StepsAreOf, GoesBy, IsOfTurn, IsFailure, IsSending, IsGivingUp}
+use Rattle.serve_links.specs.CoreSteps.{Obstacle, Notes, Step, Opened, NotOpened, Fed, Polled, Stopped, Settled, Gave, Closed, LeftLine, Broke, Ticked, Loaded, Linked, Asked, Greeted, Spelled, Late, CameLate, Lost, Noted, Does, Walks, StepsAreOf, GoesBy, IsOfTurn, IsFailure, IsSending, IsGivingUp}
 use Rattle.serve_links.specs.Called.{clock_in, given_in, TellsCallsOut, GiveOnce}
-use Rattle.serve_links.specs.Talks.{IsNotAmong, AreDue, MaySettle, IsOrderly, IsOfClients}
+use Rattle.serve_links.specs.Talks.{IsNotAmong, AreDue, IsTold, MaySettle, IsOrderly, IsOfClients}
 use Rattle.serve_links.proofs.Called.{given_besides, walks_tell_calls}
 use Rattle.serve_links.specs.Pieces.{FeedsHeld}
-use Rattle.serve_links.specs.Story.{fed_in, gave_in, is_open_in, is_broken_in, ClientAgreesWith, ClientIsTold, ClientsAreTold, TellsNone, HasOrHad, said_asks, StayOut, IsInHand, address_and_limits, LineState, line_of, LineAgrees, LineCalled, LinesAgree, OneGoes, LineGoesFrom, LineGoes, AnEnd, Agrees, AgreesGiven, AgreesBut, AgreesCalled, AgreesDue, AllGoFrom, AllGo, texts_of, servers_of, AgreesSent}
+use Rattle.serve_links.specs.Story.{fed_in, gave_in, is_open_in, is_broken_in, ClientAgreesWith, ClientIsTold, ClientsAreTold, TellsNone, HasOrHad, said_asks, StayOut, ObstacleIsShown, IsInHand, address_and_limits, LineState, line_of, LineAgrees, LineCalled, LinesAgree, OneGoes, LineGoesFrom, LineGoes, AnEnd, Agrees, AgreesGiven, AgreesBut, AgreesCalled, AgreesDue, AgreesRefused, AllGoFrom, AllGo, texts_of, servers_of, AgreesSent}
 use Rattle.serve_links.proofs.Reading.{breaks_now}
-use Rattle.serve_links.proofs.Talking.{IsPlain, plain_talk, clients_orderly, clients_clock, due_fails}
+use Rattle.serve_links.proofs.Talking.{IsPlain, plain_talk, clients_orderly, clients_clock}
 use Rattle.serve_links.proofs.Story.{one_agrees, at_told, each_told, all_told, same_told, had_stays, one_of_all, line_among, line_stays_by, line_stays, unlinked_stays, all_still, from_then, go_between, all_but, but_all}
 use Rattle.serve_links.proofs.ByLimits.{servers_same, clients_servers}
 use Rattle.serve_links.proofs.Showing.{plain_unlost, none_since, shown_since, shown_later}
@@ -101,15 +101,15 @@ pub lines_told : (h : List WireEvent) (steps past : List Step) (ls : List Link) 
 lines_told h steps past ls plain stay was at link there = line_stays h h at steps past link (λ c of_c. untouched c h) (plain_talk steps plain past at) (stay at) (was at link there)
 
 -- what is in hand is so still where links have the lines that they had
-hand_stays : (number : ℕ) (past : List Step) (ls ls' : List Link) → link_lines ls' ≡ link_lines ls → IsInHand number past ls → IsInHand number past ls'
-hand_stays number past ls ls' same was = record {
-  at = was.at;
+hand_stays : (number at since : ℕ) (past : List Step) (ls ls' : List Link) → link_lines ls' ≡ link_lines ls → IsInHand number at since past ls → IsInHand number at since past ls'
+hand_stays number at since past ls ls' same was = record {
   ask = was.ask;
   due = was.due;
-  apart = λ link there. by link (slice_get ls was.at) refl (get_line ls was.at ∙ ap (λ l. slice_get l was.at) (sym same) ∙ sym (get_line ls' was.at) ∙ ap (option_map line_of) there);
+  given = was.given;
+  apart = λ link there. by link (slice_get ls at) refl (get_line ls at ∙ ap (λ l. slice_get l at) (sym same) ∙ sym (get_line ls' at) ∙ ap (option_map line_of) there);
 }
   where
-    by : (link : Link) (o : Option Link) → slice_get ls was.at ≡ o → option_map line_of o ≡ Some (line_of link) → IsNotAmong number (said_asks link.waiting.items)
+    by : (link : Link) (o : Option Link) → slice_get ls at ≡ o → option_map line_of o ≡ Some (line_of link) → IsNotAmong number (said_asks link.waiting.items)
     by link None e l = absurd (none_some l)
     by link (Some x) e l = subst (λ (line : LineState). IsNotAmong number (said_asks line.3)) (same_some l) (was.apart x e)
 
@@ -232,6 +232,7 @@ IsSilent (Loaded configuration generation) = ⊥
 IsSilent (Linked at dialect) = ⊥
 IsSilent (Asked at number dialect ask since) = ⊥
 IsSilent (Greeted at dialect bytes) = ⊥
+IsSilent (Noted at obstacle) = ⊥
 IsSilent (Late at number limit now) = ⊥
 IsSilent (CameLate at number ask answer bytes) = ⊥
 IsSilent (Spelled at number ask answer bytes) = ⊥
@@ -254,6 +255,7 @@ tells_none (Loaded configuration generation ∷ steps) kinds past j = absurd kin
 tells_none (Linked at dialect ∷ steps) kinds past j = absurd kinds.0
 tells_none (Asked at number dialect ask since ∷ steps) kinds past j = absurd kinds.0
 tells_none (Greeted at dialect bytes ∷ steps) kinds past j = absurd kinds.0
+tells_none (Noted at obstacle ∷ steps) kinds past j = absurd kinds.0
 tells_none (Late at number limit now ∷ steps) kinds past j = absurd kinds.0
 tells_none (CameLate at number ask answer bytes ∷ steps) kinds past j = absurd kinds.0
 tells_none (Spelled at number ask answer bytes ∷ steps) kinds past j = absurd kinds.0
@@ -279,6 +281,7 @@ silent_turn (step ∷ steps) kinds = (of_turn step kinds.0, silent_turn steps ki
     of_turn (Linked at dialect) is = tt
     of_turn (Asked at number dialect ask since) is = tt
     of_turn (Greeted at dialect bytes) is = tt
+    of_turn (Noted at obstacle) is = tt
     of_turn (Late at number limit now) is = tt
     of_turn (CameLate at number ask answer bytes) is = tt
     of_turn (Spelled at number ask answer bytes) is = tt
@@ -304,6 +307,7 @@ silent_plain (step ∷ steps) kinds = (plain step kinds.0, silent_plain steps ki
     plain (Linked at dialect) is = is
     plain (Asked at number dialect ask since) is = is
     plain (Greeted at dialect bytes) is = is
+    plain (Noted at obstacle) is = is
     plain (Late at number limit now) is = is
     plain (CameLate at number ask answer bytes) is = is
     plain (Spelled at number ask answer bytes) is = is
@@ -329,6 +333,7 @@ silent_clients (step ∷ steps) kinds = (of_clients step kinds.0, silent_clients
     of_clients (Linked at dialect) is = is
     of_clients (Asked at number dialect ask since) is = is
     of_clients (Greeted at dialect bytes) is = is
+    of_clients (Noted at obstacle) is = is
     of_clients (Late at number limit now) is = is
     of_clients (CameLate at number ask answer bytes) is = is
     of_clients (Spelled at number ask answer bytes) is = is
@@ -354,6 +359,7 @@ fails_send (step ∷ steps) kinds = (sends step kinds.0, fails_send steps kinds.
     sends (Linked at dialect) is = tt
     sends (Asked at number dialect ask since) is = tt
     sends (Greeted at dialect bytes) is = is
+    sends (Noted at obstacle) is = tt
     sends (Late at number limit now) is = tt
     sends (CameLate at number ask answer bytes) is = is
     sends (Spelled at number ask answer bytes) is = is
@@ -381,6 +387,7 @@ gives_up_send cause (step ∷ steps) kinds = (sends step kinds.0, gives_up_send 
     sends (Linked at dialect) is = tt
     sends (Asked at number dialect ask since) is = tt
     sends (Greeted at dialect bytes) is = is
+    sends (Noted at obstacle) is = tt
     sends (Late at number limit now) is = tt
     sends (CameLate at number ask answer bytes) is = is
     sends (Spelled at number ask answer bytes) is = is
@@ -405,6 +412,7 @@ sends_turn (step ∷ steps) kinds = (of_turn step kinds.0, sends_turn steps kind
     of_turn (Linked at dialect) is = tt
     of_turn (Asked at number dialect ask since) is = tt
     of_turn (Greeted at dialect bytes) is = tt
+    of_turn (Noted at obstacle) is = tt
     of_turn (Late at number limit now) is = tt
     of_turn (CameLate at number ask answer bytes) is = tt
     of_turn (Spelled at number ask answer bytes) is = tt
@@ -505,18 +513,18 @@ calls_go {Is} {h} {cs} {ls} a b steps kinds silent walks = record {
   servers = clients_servers steps ls ls (silent_clients steps silent) refl;
 }
 
--- a call failed that is still to be asked
+-- a call failed that is still to be asked, and isn't sent for a reason
 pub refused_go :
-    {h : List WireEvent} {cs : Clients} {ls : List Link} (number : ℕ) (a b : ServedCore) → IsSettled a number Failed b
-    → AllGoFrom (AgreesDue number) Agrees IsSending (record { core = a; history = h; clients = cs; links = ls }) (record { core = b; history = h; clients = cs; links = ls })
-refused_go {h} {cs} {ls} number a b is =
+    {h : List WireEvent} {cs : Clients} {ls : List Link} (number at since : ℕ) (a b : ServedCore) → IsSettled a number Failed b
+    → AllGoFrom (AgreesRefused number at since) Agrees IsSending (record { core = a; history = h; clients = cs; links = ls }) (record { core = b; history = h; clients = cs; links = ls })
+refused_go {h} {cs} {ls} number at since a b is =
     let step : Step = Settled number Failed in
     record {
       steps = step ∷ [];
       kinds = (refl, tt);
       walks = (a, refl, is);
       agree = λ past due. let was = due.0 in record {
-        orderly = ((settles past was.orderly due.1, due_fails past number (due.1.at, due.1.ask) due.1.due), was.orderly);
+        orderly = ((settles past was.orderly due.1, inl (record { at = at; ask = due.1.ask; due = due.1.due; why = due.2 })), was.orderly);
         calls = (walks_tell_calls.goes_on (step ∷ []) past a b was.calls (a, refl, is)).0;
         clients = agree_told h (fed_in past) (gave_in past) (fed_in (step ∷ past)) (gave_in (step ∷ past)) cs (λ j. (refl, refl)) was.clients;
         told = all_told past (step ∷ []) cs (λ j. (refl, refl, refl, refl)) was.told;
@@ -530,27 +538,50 @@ refused_go {h} {cs} {ls} number a b is =
       servers = record { same = refl; late = (tt, tt) };
     }
   where
-    settles : (past : List Step) → IsOrderly past → IsInHand number past ls → MaySettle number past
-    settles past o hand = record { call = (hand.at, hand.ask); is_out = due_out past number (hand.at, hand.ask) hand.due; nowhere = due_nowhere past number (hand.at, hand.ask) o hand.due }
+    settles : (past : List Step) → IsOrderly past → IsInHand number at since past ls → MaySettle number past
+    settles past o hand = record { call = (at, hand.ask); is_out = due_out past number (at, hand.ask) hand.due; nowhere = due_nowhere past number (at, hand.ask) o hand.due }
 
-    lines : (past : List Step) → LinesAgree past h ls → IsInHand number past ls → LinesAgree (Settled number Failed ∷ past) h ls
-    lines past was hand at link there =
-        let agrees = was at link there in
-        let left = hand_gone past (Settled number Failed ∷ past) hand.at number hand.ask (number, Classic, hand.ask, 0) refl hand.due (keeps_settled past number Failed Classic hand.ask 0) at link.calls.sent.items link.waiting.items (λ e. hand.apart link (ap (slice_get ls) e ∙ there)) agrees.called agrees.due in
-        line_stays_by h h at (Settled number Failed ∷ []) past link (λ c of_c. untouched c h) refl left.1 left.0 agrees
+    lines : (past : List Step) → LinesAgree past h ls → IsInHand number at since past ls → LinesAgree (Settled number Failed ∷ past) h ls
+    lines past was hand i link there =
+        let agrees = was i link there in
+        let left = hand_gone past (Settled number Failed ∷ past) at number hand.ask (number, Classic, hand.ask, 0) refl hand.due (keeps_settled past number Failed Classic hand.ask 0) i link.calls.sent.items link.waiting.items (λ e. hand.apart link (ap (slice_get ls) e ∙ there)) agrees.called agrees.due in
+        line_stays_by h h i (Settled number Failed ∷ []) past link (λ c of_c. untouched c h) refl left.1 left.0 agrees
+
+-- an obstacle is noted
+pub noted_agrees :
+    {h : List WireEvent} {cs : Clients} {ls : List Link} (at : ℕ) (obstacle : Obstacle) (a b : ServedCore) (past : List Step) → Notes obstacle a b → IsTold obstacle at past → ObstacleIsShown obstacle at past h
+    → Agrees past (record { core = a; history = h; clients = cs; links = ls }) → Agrees (Noted at obstacle ∷ past) (record { core = b; history = h; clients = cs; links = ls })
+noted_agrees {h} {cs} {ls} at obstacle a b past does told shown was =
+    let step : Step = Noted at obstacle in
+    record {
+      orderly = (told, was.orderly);
+      calls = (walks_tell_calls.goes_on (step ∷ []) past a b was.calls (a, refl, does)).0;
+      clients = agree_told h (fed_in past) (gave_in past) (fed_in (step ∷ past)) (gave_in (step ∷ past)) cs (λ j. (refl, refl)) was.clients;
+      told = all_told past (step ∷ []) cs (λ j. (refl, refl, refl, refl)) was.told;
+      links = λ i link there. line_stays h h i (step ∷ []) past link (λ c of_c. untouched c h) refl (λ n ask is. (refl, refl, refl)) (was.links i link there);
+      gone = λ conn id of_id. had_quiet past (step ∷ []) h h cs cs id conn (untouched conn h) refl of_id was.gone;
+      shown = (shown, was.shown);
+      shut = was.shut;
+      unlinked = was.unlinked;
+      clock = was.clock;
+    }
 
 -- one in hand is still to be asked
-pub called_due : {Q : List Step → AnEnd → Type 0} {Is : Step → Type 0} {a b : AnEnd} (number at : ℕ) (ask : Ask) → AllGoFrom (AgreesDue number) Q Is a b → AllGoFrom (AgreesCalled number at ask) Q Is a b
-called_due number at ask g =
-    go_between (λ past was. (was.0, record { at = at; ask = ask; due = one_due past number at ask was.1 was.0.orderly was.2.orderly; apart = λ link there. one_apart past number at ask was.1 (said_asks link.waiting.items) was.0.orderly was.2.orderly (was.2.links at link there).due })) (λ past was. was) g
+pub called_due :
+    {Q : List Step → AnEnd → Type 0} {Is : Step → Type 0} {a b : AnEnd} (number at since : ℕ) (ask : Ask) → since ≡ time a.history → AllGoFrom (AgreesDue number at since) Q Is a b → AllGoFrom (AgreesCalled number at ask) Q Is a b
+called_due {a = a} number at since ask clock g =
+    go_between (λ past was. (was.0, record { ask = ask; due = one_due past number at ask was.1 was.0.orderly was.2.orderly; given = given past was; apart = λ link there. one_apart past number at ask was.1 (said_asks link.waiting.items) was.0.orderly was.2.orderly (was.2.links at link there).due })) (λ past was. was) g
+  where
+    given : (past : List Step) → AgreesCalled number at ask past a → given_in past number ≤ since
+    given past was = let same : given_in past number ≡ since = was.3 ∙ was.0.clock ∙ sym clock in omega (arith, same)
 
 pub sent_due :
     {h h' : List WireEvent} {cs cs' : Clients} {ls ls' : List Link} (at : ℕ) (call : SentCall) (core : ServedCore) → EndsStay h h' cs cs' ls ls'
-    → AllGoFrom (AgreesSent at call) (AgreesDue call.ticket.number) IsSending (record { core = core; history = h; clients = cs; links = ls }) (record { core = core; history = h'; clients = cs'; links = ls' })
+    → AllGoFrom (AgreesSent at call) (AgreesDue call.ticket.number at call.since) IsSending (record { core = core; history = h; clients = cs; links = ls }) (record { core = core; history = h'; clients = cs'; links = ls' })
 unfolding stays
 sent_due {h} {h'} {cs} {cs'} {ls} {ls'} at call core s =
     let g : AllGo IsSending (record { core = core; history = h; clients = cs; links = ls }) (record { core = core; history = h'; clients = cs'; links = ls' }) = stays core s in
-    record { steps = []; kinds = tt; walks = refl; agree = λ past was. (g.agree past was.0, hand_stays call.ticket.number past ls ls' s.links (record { at = at; ask = call.ticket.ask; due = was.3.0; apart = λ link there. (was.2 link there).1 })); servers = g.servers }
+    record { steps = []; kinds = tt; walks = refl; agree = λ past was. (g.agree past was.0, hand_stays call.ticket.number at call.since past ls ls' s.links (record { ask = call.ticket.ask; due = was.3.0; given = was.3.3; apart = λ link there. (was.2 link there).1 })); servers = g.servers }
 
 pub quietly_go : {h : List WireEvent} {cs : Clients} {ls : List Link} {a b : ServedCore} → GoesBy IsSilent a b → AllGo IsOfTurn (record { core = a; history = h; clients = cs; links = ls }) (record { core = b; history = h; clients = cs; links = ls })
 quietly_go {a = a} {b = b} f = calls_go a b f.steps (silent_turn f.steps f.kinds) f.kinds f.walks

@@ -1,6 +1,5 @@
 -- What is done at one link, by what its own functions say, and how that goes on among all.
-use Rattle.mc_types.specs.declared.ask.Ask.{Ask}
-use Rattle.std.proofs.Common.{◌≡◌, ℕ, ◌<◌, ◌≤◌, zero, suc, false, List, [], ◌∷◌, ◌++◌, length, get_or, Option, Some, None, Result, Ok, ◌⊎◌, inl, inr, refl, sym, ap, ◌∙◌, subst, arith, Bool}
+use Rattle.std.proofs.Common.{◌≡◌, ℕ, ◌<◌, ◌≤◌, zero, suc, false, List, [], ◌∷◌, ◌++◌, length, get_or, Option, Some, None, Result, Ok, ◌⊎◌, inl, inr, refl, sym, ap, ◌∙◌, subst, arith}
 use Rattle.std.proofs.Math.ListN.{set}
 use Rattle.std.specs.Prelude.{MatchOption, IfOk, IfSome, IsSome, slice_get}
 use Rattle.std.specs.Option.{option_map}
@@ -48,8 +47,10 @@ use Rattle.serve_links.proofs.Shutting.{shut_quiet}
 use Rattle.serve_proxy.specs.Ends.{link_lines, LinksTake, LinksGive, LineTakes, HoldsAwaited, HoldsAwaitedAt, IsOpenAt, AsksIn}
 use Rattle.serve_proxy.proofs.Going.{line_took, line_gave, had_quiet, numbers_kept, told_kept, set_here}
 use Rattle.std.proofs.lemmas.Option.{slice_get_read}
-use Rattle.serve_links.specs.Unsent.{HoldsBack}
-use Rattle.serve_proxy.specs.Unsent.{IsShutAt}
+use Rattle.serve_links.specs.declared.refusal.Refusal.{Refusal}
+use Rattle.serve_links.specs.declared.refusal.Refusal.TheVariants as refusals
+use Rattle.serve_links.specs.Unsent.{IsRefused}
+use Rattle.serve_proxy.specs.Unsent.{IsRefusedAt}
 use Rattle.serve_proxy.proofs.Staying.{line_lent, none_kept}
 
 -- ---- lines
@@ -159,11 +160,11 @@ begun_not at dialect x y h h' opening.Failed opens none isnt = none_kept x.conn 
 begun_not at dialect x y h h' opening.NoMemory opens none isnt = none_kept x.conn y.conn none opens.3.conn
 
 -- the link at a place has its calls fail at once, or has no connection
-pub shut_set : (links : List Link) (at now : ℕ) (y : Link) → at < length links → HoldsBack now y ⊎ (y.conn ≡ None) → IsShutAt at now (set links at y)
-shut_set links at now y within shut = subst (λ o. IfSome o (λ link. HoldsBack now link ⊎ (link.conn ≡ None))) (sym (set_here links at y within)) shut
+pub refused_set : (why : Refusal) (links : List Link) (at since now : ℕ) (y : Link) → at < length links → IsRefused why since now y → IsRefusedAt why at since now (set links at y)
+refused_set why links at since now y within is = subst (λ o. MatchOption o (why ≡ refusals.NoConnection) (IsRefused why since now)) (sym (set_here links at y within)) is
 
-pub shut_none : (links : List Link) (at now : ℕ) → slice_get links at ≡ None → IsShutAt at now links
-shut_none links at now none = subst (λ o. IfSome o (λ link. HoldsBack now link ⊎ (link.conn ≡ None))) (sym none) tt
+pub refused_none : (links : List Link) (at since now : ℕ) → slice_get links at ≡ None → IsRefusedAt refusals.NoConnection at since now links
+refused_none links at since now none = subst (λ o. MatchOption o (refusals.NoConnection ≡ refusals.NoConnection) (IsRefused refusals.NoConnection since now)) (sym none) refl
 
 none_isnt_some : (A : Type 0) → IsSome {T = A} None → ⊥
 none_isnt_some A e = cc

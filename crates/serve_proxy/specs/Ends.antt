@@ -24,7 +24,7 @@ use Rattle.serve_proxy.specs.Limiting.{AreLimited}
 use Rattle.serve_proxy.specs.declared.sockets.Sockets.{Sockets}
 use Rattle.serve_links.specs.Lateness.{AwaitsLate}
 use Rattle.serve_links.specs.Talks.{Standing, standing_after}
-use Rattle.serve_links.specs.Story.{LineState, line_of, LineAgrees, LineFails, LineCalled, LineGoesFrom, LineGoes, OneGoes, AnEnd, Agrees, AgreesGiven, AgreesBut, AgreesCalled, AgreesSent, AllGoFrom, AllGo, texts_of, servers_of}
+use Rattle.serve_links.specs.Story.{LineState, line_of, LineAgrees, LineFails, LineLeaves, LineCalled, LineGoesFrom, LineGoes, OneGoes, AnEnd, Agrees, AgreesGiven, AgreesBut, AgreesCalled, AgreesSent, AllGoFrom, AllGo, texts_of, servers_of}
 
 -- what each link has to do with its connection and its calls
 abbrev pub link_lines : List Link → List LineState
@@ -175,10 +175,10 @@ AllSendFrom Before history core sockets core' sockets' = AllGoFrom Before Agrees
 abbrev pub AllFailOn : {W : Type 0} → (W → List WireEvent) → ServedCore → Sockets W → ServedCore → Sockets W → Type 0
 AllFailOn history core sockets core' sockets' = AllSendFrom Agrees history core sockets core' sockets'
 
--- the link at this place, whose bytes may be lost, is given up, for whatever its connection shows that leaves it so: its calls fail, and nothing else is done with the core
+-- the link at this place, whose bytes may be lost, is given up, for whatever its connection shows that leaves it so, or what was just noted: its calls fail, and nothing else is done with the core
 abbrev pub AllLeave : {W : Type 0} → Standing → ℕ → (W → List WireEvent) → ServedCore → Sockets W → ServedCore → Sockets W → Type 0
 AllLeave standing at history core sockets core' sockets' =
-    (why : Option Cause) → standing_after why ≡ standing → AllGoFrom (AgreesBut (LineFails why) at) Agrees (IsGivingUp why) (end_of history core sockets) (end_of history core' sockets')
+    (why : Option Cause) → standing_after why ≡ standing → AllGoFrom (AgreesBut (LineLeaves why) at) Agrees (IsGivingUp why) (end_of history core sockets) (end_of history core' sockets')
 
 -- it is given up for this cause, and where it can't be kept its end may be seen with that
 abbrev pub AllGiveUp : {W : Type 0} → ℕ → Cause → (W → List WireEvent) → ServedCore → Sockets W → ServedCore → Sockets W → Type 0

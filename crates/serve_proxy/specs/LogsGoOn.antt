@@ -17,7 +17,7 @@ use Rattle.core_accepted.specs.declared.beginnings.Beginnings.{Beginnings}
 use Rattle.core_accepted.specs.Known.{Known}
 use Rattle.core_accepted.specs.Logs.{MayHaveLed, IsFreshLog, EveryLogFromIsFresh, IsAcceptedSince, BeginSo, fed}
 use Rattle.core_accepted.specs.Losses.{IsLossEvent}
-use Rattle.serve_links.specs.CoreSteps.{Step, Opened, NotOpened, Fed, Polled, Stopped, Settled, Gave, Closed, LeftLine, Broke, Ticked, Loaded, Linked, Asked, Greeted, Spelled, Late, CameLate, Lost, Walks}
+use Rattle.serve_links.specs.CoreSteps.{Step, Opened, NotOpened, Fed, Polled, Stopped, Settled, Gave, Closed, LeftLine, Broke, Ticked, Loaded, Linked, Asked, Greeted, Spelled, Late, CameLate, Lost, Noted, Walks}
 
 -- by these entries nobody else writes the servers
 abbrev pub AreOwn : List (Entry dialect) → Type 0
@@ -80,6 +80,7 @@ module _ (opening : ℕ → List ℕ → Option Item) where
   StepGoes (Linked at _) past old led new Holds = StaysOn past old new Holds
   StepGoes (Asked at number _ ask since) past old led new Holds = StaysOn past old new Holds
   StepGoes (Greeted at _ bytes) past old led new Holds = StaysOn past old new Holds
+  StepGoes (Noted at _) past old led new Holds = GoesOnSaying (λ entries. entries ≡ []) past new Holds
   StepGoes (Late at number limit now) past old led new Holds = StaysOn past old new Holds
   StepGoes (CameLate at number ask answer bytes) past old led new Holds = StaysOn past old new Holds
   StepGoes (Spelled at number ask answer bytes) past old led new Holds = StaysOn past old new Holds

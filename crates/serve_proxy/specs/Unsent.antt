@@ -1,11 +1,13 @@
 -- Why calls fail that never go out. Source: mcgate's own.
-use Rattle.std.specs.Prelude.{◌≡◌, ◌⊎◌, ℕ, List, Some, None, IfSome, slice_get}
+use Rattle.std.specs.Prelude.{◌≡◌, ℕ, List, Some, MatchOption, slice_get}
 use Rattle.serve_links.specs.declared.link.Link.{Link}
-use Rattle.serve_links.specs.Unsent.{HoldsBack, TakesCalls, WaitsTooLong}
+use Rattle.serve_links.specs.declared.refusal.Refusal.{Refusal}
+use Rattle.serve_links.specs.declared.refusal.Refusal.TheVariants as refusals
+use Rattle.serve_links.specs.Unsent.{TakesCalls, WaitsTooLong, IsRefused}
 
--- the link of this number, if there is one, has its calls fail at once when a clock shows this, or has no connection
-abbrev pub IsShutAt : (at now : ℕ) → List Link → Type 0
-IsShutAt at now links = IfSome (slice_get links at) (λ link. HoldsBack now link ⊎ (link.conn ≡ None))
+-- a call that was given out by this time isn't sent over the link of this number for this reason, when a clock shows this; where there is no such link, for want of a connection
+abbrev pub IsRefusedAt : Refusal → (at since now : ℕ) → List Link → Type 0
+IsRefusedAt why at since now links = MatchOption (slice_get links at) (why ≡ refusals.NoConnection) (IsRefused why since now)
 
 -- calls may go out on the link of this number when a clock shows this
 abbrev pub TakesCallsAt : (at now : ℕ) → List Link → Type 0

@@ -3,13 +3,15 @@
 ghost use Rattle.std.specs.Prelude.{◌≡◌, ◌≤◌, ◌⊎◌, true, false};
 ghost use Rattle.serve_links.specs.Story.{AgreesSent, AgreesDue};
 ghost use Rattle.serve_proxy.specs.Ends.{AgreesTicket, AllSendFrom, AllFailOn};
-ghost use Rattle.serve_proxy.specs.Unsent.{IsShutAt, WaitsTooLongAt};
+ghost use Rattle.serve_proxy.specs.Unsent.{IsRefusedAt, WaitsTooLongAt};
+ghost use Rattle.serve_wire.specs.Events.{time};
 
 use crate::failing::look_at_idle;
 use crate::sockets::Sockets;
 use core_accepted::ServedCore;
 use core_proxy::Ticket;
 use serve_links::calls::{SentCall, fail_call};
+use serve_links::{NotSent, note_refusal};
 use serve_wire::Wire;
 use std::net::Net;
 
@@ -39,10 +41,7 @@ fn send_looked<W: Wire, N: Net>(
     ensures ends { AllSendFrom (AgreesTicket ticket) W.history core.old sockets.old core.new sockets.new }
 {
     let at = ticket.server.number() as usize;
-    let time = sockets.time;
-    if !sockets.links.is_open(net, &mut sockets.wire, at, time) {
-        return refuse_shut(core, sockets, id, ticket);
-    }
+    let opened = sockets.links.open(net, &mut sockets.wire, at);
     let bulk = sockets.bulk_of(id, at, &ticket);
     let call = SentCall {
         ticket,
@@ -52,6 +51,9 @@ fn send_looked<W: Wire, N: Net>(
         bulk,
         dialect: sockets.links.dialect_of(at),
     };
+    if let Err(why) = opened {
+        return refuse(core, sockets, at, NotSent { call, why });
+    }
     if sockets.links.is_full(at, bulk) {
         return let_wait(core, sockets, at, call);
     }
@@ -87,7 +89,7 @@ fn let_wait<W: Wire>(core: &mut ServedCore, sockets: &mut Sockets<W>, at: usize,
         Ok(()) => {
             sockets.clients.mark_waiting(client);
         }
-        Err(call) => refuse_call(core, sockets, client, call.ticket),
+        Err(it) => refuse(core, sockets, at, it),
     }
 }
 
@@ -98,26 +100,20 @@ fn begin_call<W: Wire>(core: &mut ServedCore, sockets: &mut Sockets<W>, at: usiz
     let now = sockets.wire.last_micros();
     match sockets.links.write_call(at, call, now) {
         Ok(()) => {}
-        Err(call) => refuse_call(core, sockets, call.client, call.ticket),
+        Err(it) => refuse(core, sockets, at, it),
     }
 }
 
-// The call has failed, and never went out, as its server's link takes none.
-fn refuse_shut<W: Wire>(core: &mut ServedCore, sockets: &mut Sockets<W>, id: usize, ticket: Ticket)
-    requires { IsShutAt ticket.server sockets.old.time sockets.old.links.all.items }
-    ensures ends { AllSendFrom (AgreesDue ticket.number) W.history core.old sockets.old core.new sockets.new }
+// The call has failed, and was never sent, for a reason that what was said over its server's connection tells, or that is counted.
+fn refuse<W: Wire>(core: &mut ServedCore, sockets: &mut Sockets<W>, at: usize, it: NotSent)
+    requires { IsRefusedAt it.why at it.call.since (time (W.history sockets.old.wire)) sockets.old.links.all.items }
+    ensures ends { AllSendFrom (AgreesDue it.call.ticket.number at it.call.since) W.history core.old sockets.old core.new sockets.new }
 {
-    refuse_call(core, sockets, id, ticket)
-}
-
-// The call has failed, and never went out.
-fn refuse_call<W: Wire>(core: &mut ServedCore, sockets: &mut Sockets<W>, id: usize, ticket: Ticket)
-    ensures ends { AllSendFrom (AgreesDue ticket.number) W.history core.old sockets.old core.new sockets.new }
-{
-    let at = ticket.server.number() as usize;
-    fail_call(core, ticket);
+    note_refusal(core, it.why);
+    let client = it.call.client;
+    fail_call(core, it.call.ticket);
     sockets.links.note_unsent(at, 1);
-    sockets.clients.mark_settled(id);
+    sockets.clients.mark_settled(client);
 }
 
 /// Calls that waited are written to the link, up to a backlog. Whether one was.
@@ -178,24 +174,26 @@ fn fail_next<W: Wire>(core: &mut ServedCore, sockets: &mut Sockets<W>, at: usize
     ensures late { result ≡ true → WaitsTooLongAt at sockets.old.links.pace sockets.old.links.all.items }
     ensures none { result ≡ false → core.new ≡ core.old }
 {
-    match sockets.links.next_too_late(at) {
+    let now = sockets.wire.last_millis();
+    match sockets.links.next_too_late(at, now) {
         None => false,
-        Some(call) => refuse_waited(core, sockets, at, call),
+        Some(it) => refuse_waited(core, sockets, at, it),
     }
 }
 
-// The call that waited has failed, and never went out. It tells `true`.
+// The call that waited has failed, and was never sent. It tells `true`.
 fn refuse_waited<W: Wire>(
     core: &mut ServedCore,
     sockets: &mut Sockets<W>,
     at: usize,
-    call: SentCall,
+    it: NotSent,
 ) -> bool
-    ensures ends { AllSendFrom (AgreesSent at call) W.history core.old sockets.old core.new sockets.new }
+    requires { IsRefusedAt it.why at it.call.since (time (W.history sockets.old.wire)) sockets.old.links.all.items }
+    ensures ends { AllSendFrom (AgreesSent at it.call) W.history core.old sockets.old core.new sockets.new }
     ensures told { result ≡ true }
 {
-    sockets.clients.end_waiting(call.client);
-    refuse_call(core, sockets, call.client, call.ticket);
+    sockets.clients.end_waiting(it.call.client);
+    refuse(core, sockets, at, it);
     true
 }
 

@@ -1,7 +1,7 @@
 //! The links to the servers, by their numbers: which of them are to be read and written, when they are late, and what there is to tell
 //! of them. Nothing here knows the core.
 
-ghost use Rattle.std.specs.Prelude.{◌≡◌, ◌↔◌, Bool, true, false, None, Some, [], ◌∷◌, ◌++◌, drop, take, length, IsTrue, IsSome, IfOk, IfErr, OnOk, OnErr, MatchOption, slice_get};
+ghost use Rattle.std.specs.Prelude.{◌≡◌, ◌↔◌, ℕ, IfSome, Bool, true, false, None, Some, [], ◌∷◌, ◌++◌, drop, take, length, IsTrue, IsSome, IfOk, IfErr, OnOk, OnErr, MatchOption, slice_get};
 ghost use Rattle.serve_links.specs.declared.link.Link.{Link};
 ghost use Rattle.serve_clients.specs.declared.clients.Clients.{Clients};
 ghost use Rattle.serve_links.specs.Lateness.{IsConnectLateAt, LinkIsRead};
@@ -12,21 +12,26 @@ ghost use Rattle.serve_proxy.specs.Epochs.{share_address, HaveEnded, EpochIsInTu
 ghost use Rattle.serve_proxy.specs.Bringing.{HaveOneAt, BeginWith, RefusesServers};
 ghost use Rattle.serve_proxy.specs.Emptying.{AddsEach, EmptiesAt};
 ghost use Rattle.serve_proxy.specs.Limiting.{value_limits, limited_by};
-ghost use Rattle.serve_proxy.specs.Unsent.{IsShutAt, TakesCallsAt, WaitsTooLongAt};
+ghost use Rattle.serve_proxy.specs.Unsent.{IsRefusedAt, TakesCallsAt, WaitsTooLongAt};
+ghost use Rattle.serve_wire.specs.Events.{time};
 ghost use Rattle.serde_json.specs.View.{view};
-ghost use Rattle.serve_links.specs.Story.{line_of, texts_of};
-ghost use Rattle.serve_proxy.specs.Ends.{link_lines, LinksTake, LinksGive, LineStands, LineTakes, HoldsAwaited, HoldsAwaitedAt, IsOpenAt, AsksIn, AwaitsLateAt, AwaitsNoneAt, EndsGo, AddsLines};
+ghost use Rattle.serve_links.specs.Story.{line_of, texts_of, LineIsForeign};
+ghost use Rattle.serve_links.specs.Unsent.{IsRefused};
+ghost use Rattle.serve_links.specs.Dialects.{awaits_flush};
+ghost use Rattle.serve_proxy.specs.Ends.{link_lines, LinksTake, LinksGive, LineStands, LineTakes, AwaitsNothing, HoldsAwaited, HoldsAwaitedAt, IsOpenAt, AsksIn, AwaitsLateAt, AwaitsNoneAt, EndsGo, AddsLines};
 
 use crate::clock::earlier;
 use crate::limiting::limit_links;
 use crate::texts::{is_over, share_address, text_at};
-use core_accepted::LoadFault;
+use core_accepted::{LoadFault, Unshown};
 use gate_check::ReloadFault;
 use mc_types::{Ask, Dialect};
 use route_json::addresses::Servers;
 use serde_json::Value;
 use serve_links::calls::SentCall;
-use serve_links::{Cause, KEPT_ROOM, Lateness, Link, LinkLimits, LinkNews, Opening, Settings};
+use serve_links::{
+    Cause, KEPT_ROOM, Lateness, Link, LinkLimits, LinkNews, NotSent, Opening, Refusal, Settings,
+};
 use serve_wire::{Ready, Wire};
 use std::alloc::{AllocError, Global};
 use std::net::Net;
@@ -89,7 +94,7 @@ fn begin<W: Wire, N: Net>(
 
 // Whether nothing is awaited over its connection.
 fn awaits_none(link: &Link) -> bool
-    ensures { (link.now.calls.sent.items ≡ []) → (link.now.late.items ≡ []) → (link.now.awaits_dialect ≡ None) → result ≡ true }
+    ensures { IsTrue result ↔ AwaitsNothing link.now }
 {
     let is_late = link.awaits_late();
     if is_late {
@@ -103,7 +108,8 @@ fn awaits_none(link: &Link) -> bool
 
 // Whether bytes are held of its connection though nothing is awaited over it.
 fn holds_unasked(link: &Link) -> bool
-    ensures { result ≡ false → HoldsAwaited link.now }
+    ensures none { result ≡ false → HoldsAwaited link.now }
+    ensures foreign { result ≡ true → LineIsForeign link.now }
 {
     match &link.conn {
         Some(conn) => awaits_none(link) && !conn.held.is_empty(),
@@ -111,25 +117,48 @@ fn holds_unasked(link: &Link) -> bool
     }
 }
 
-// The call is written to the link, or given back, as it is where late answers are awaited, the server is still to empty itself, or bytes are held that no
-// call asked for. `now` is in microseconds.
-fn write_to(link: &mut Link, call: SentCall, now: u64) -> Result<(), SentCall>
-    ensures ok { OnOk result (LineTakes call link.old link.new) }
-    ensures awaited { OnOk result (HoldsAwaited link.old) }
-    ensures err { IfErr result (λ given. (given ≡ call) × (line_of link.new ≡ line_of link.old)) }
+// Why no call is written to the link, if none is: it has no connection, late answers are awaited, the server is still to empty itself, or bytes are held that no call asked for.
+fn barred(link: &Link) -> Option<Refusal>
+    ensures refused { IfSome result (λ why. (since now : ℕ) → IsRefused why since now link.now) }
+    ensures free { result ≡ None → IsSome link.now.conn × (link.now.late.items ≡ []) × (awaits_flush link.now.awaits_dialect ≡ false) × HoldsAwaited link.now }
 {
+    if link.conn.is_none() {
+        return Some(Refusal::NoConnection);
+    }
     if link.awaits_late() {
-        return Err(call);
+        return Some(Refusal::ServerLate);
     }
     if link.awaits_flush() {
-        return Err(call);
+        return Some(Refusal::Emptying);
     }
     if holds_unasked(link) {
-        return Err(call);
+        return Some(Refusal::ForeignCame);
     }
-    match link.conn.as_mut() {
-        Some(conn) => link.calls.begin(call, now, &mut conn.unsent),
-        None => Err(call),
+    None
+}
+
+// The call is written to the link, or given back with why it isn't sent. `now` is in microseconds.
+fn write_to(link: &mut Link, call: SentCall, now: u64) -> Result<(), NotSent>
+    ensures ok { OnOk result (LineTakes call link.old link.new) }
+    ensures awaited { OnOk result (HoldsAwaited link.old) }
+    ensures err { IfErr result (λ it. (it.call ≡ call) × (line_of link.new ≡ line_of link.old)) }
+    ensures why { IfErr result (λ it. (since at : ℕ) → IsRefused it.why since at link.new) }
+{
+    if let Some(why) = barred(link) {
+        return Err(NotSent { call, why });
+    }
+    let Some(conn) = link.conn.as_mut() else {
+        return Err(NotSent {
+            call,
+            why: Refusal::NoConnection,
+        });
+    };
+    match link.calls.begin(call, now, &mut conn.unsent) {
+        Ok(()) => Ok(()),
+        Err(call) => Err(NotSent {
+            call,
+            why: Refusal::Unseen(Unshown::NoMemory),
+        }),
     }
 }
 
@@ -600,31 +629,32 @@ impl Links {
         true
     }
 
-    /// Whether a call may go out on the link: it has a connection, or one could be begun, and it isn't held back.
-    pub fn is_open<W: Wire, N: Net>(&mut self, net: &N, wire: &mut W, at: usize, time: u64) -> bool
+    /// A call may go out on the link, which has a connection, or one was begun; or why it isn't sent.
+    pub fn open<W: Wire, N: Net>(&mut self, net: &N, wire: &mut W, at: usize) -> Result<(), Refusal>
         ensures ends { (clients : Clients) → EndsGo (W.history wire.old) (W.history wire.new) clients clients self.old.all.items self.new.all.items }
-        ensures there { result ≡ true → IsOpenAt at self.new.all.items }
-        ensures free { result ≡ true → TakesCallsAt at time self.old.all.items }
-        ensures shut { result ≡ false → IsShutAt at time self.new.all.items }
+        ensures there { OnOk result (IsOpenAt at self.new.all.items) }
+        ensures free { OnOk result (TakesCallsAt at (time (W.history wire.old)) self.old.all.items) }
+        ensures refused { IfErr result (λ why. (since : ℕ) → IsRefusedAt why at since (time (W.history wire.new)) self.new.all.items) }
     {
+        let now = wire.last_millis();
         let Some(link) = self.all.get_mut(at) else {
-            return false;
+            return Err(Refusal::NoConnection);
         };
-        if link.is_held_back(time) {
-            return false;
+        if let Some(why) = link.refusal(now) {
+            return Err(why);
         }
         if link.conn.is_some() {
-            return true;
+            return Ok(());
         }
-        match begin(link, self.alloc, net, wire, at, time, &self.settings) {
+        match begin(link, self.alloc, net, wire, at, now, &self.settings) {
             Opening::Begun => {
                 self.note_limit(at);
-                true
+                Ok(())
             }
-            Opening::NoAddress | Opening::NoMemory => false,
+            Opening::NoAddress | Opening::NoMemory => Err(Refusal::NoConnection),
             Opening::Failed => {
                 self.has_news = true;
-                false
+                Err(Refusal::NoConnection)
             }
         }
     }
@@ -655,14 +685,24 @@ impl Links {
         }
     }
 
-    /// The call waits until its server takes more, or is given back.
-    pub fn let_wait(&mut self, at: usize, call: SentCall) -> Result<(), SentCall>
+    /// The call waits until its server takes more, or is given back with why it isn't sent.
+    pub fn let_wait(&mut self, at: usize, call: SentCall) -> Result<(), NotSent>
         ensures ok { OnOk result (LinksTake at call self.old.all.items self.new.all.items) }
-        ensures err { IfErr result (λ given. (given ≡ call) × (link_lines self.new.all.items ≡ link_lines self.old.all.items)) }
+        ensures err { IfErr result (λ it. (it.call ≡ call) × (link_lines self.new.all.items ≡ link_lines self.old.all.items)) }
+        ensures why { IfErr result (λ it. (since now : ℕ) → IsRefusedAt it.why at since now self.new.all.items) }
     {
-        match self.all.get_mut(at) {
-            Some(link) => link.let_wait(call),
-            None => Err(call),
+        let Some(link) = self.all.get_mut(at) else {
+            return Err(NotSent {
+                call,
+                why: Refusal::NoConnection,
+            });
+        };
+        match link.let_wait(call) {
+            Ok(()) => Ok(()),
+            Err(call) => Err(NotSent {
+                call,
+                why: Refusal::Unseen(Unshown::NoMemory),
+            }),
         }
     }
 
@@ -691,24 +731,29 @@ impl Links {
         self.all.get_mut(at)?.next_to_go(places, clients)
     }
 
-    /// The first of the calls that wait for it, if that has waited too long to go out, or none goes out for now.
-    pub fn next_too_late(&mut self, at: usize) -> Option<SentCall>
-        ensures call { MatchOption result (link_lines self.new.all.items ≡ link_lines self.old.all.items) (λ call. LinksGive at call self.old.all.items self.new.all.items) }
+    /// The first of the calls that wait for it, if that has waited too long to go out when the clock shows `now`, or none goes out for now; and why.
+    pub fn next_too_late(&mut self, at: usize, now: u64) -> Option<NotSent>
+        ensures call { MatchOption result (link_lines self.new.all.items ≡ link_lines self.old.all.items) (λ it. LinksGive at it.call self.old.all.items self.new.all.items) }
+        ensures refused { IfSome result (λ it. IsRefusedAt it.why at it.call.since now self.new.all.items) }
         ensures late { IsSome result → WaitsTooLongAt at self.old.pace self.old.all.items }
     {
         let pace = self.pace;
-        self.all.get_mut(at)?.next_too_late(pace)
+        self.all.get_mut(at)?.next_too_late(pace, now)
     }
 
-    /// The call is written to the link, or given back. `now` is in microseconds.
-    pub fn write_call(&mut self, at: usize, call: SentCall, now: u64) -> Result<(), SentCall>
+    /// The call is written to the link, or given back with why it isn't sent. `now` is in microseconds.
+    pub fn write_call(&mut self, at: usize, call: SentCall, now: u64) -> Result<(), NotSent>
         ensures ok { OnOk result (LinksTake at call self.old.all.items self.new.all.items) }
         ensures awaited { OnOk result (HoldsAwaitedAt at self.old.all.items) }
-        ensures err { IfErr result (λ given. (given ≡ call) × (link_lines self.new.all.items ≡ link_lines self.old.all.items)) }
+        ensures err { IfErr result (λ it. (it.call ≡ call) × (link_lines self.new.all.items ≡ link_lines self.old.all.items)) }
+        ensures why { IfErr result (λ it. (since clock : ℕ) → IsRefusedAt it.why at since clock self.new.all.items) }
     {
         match self.all.get_mut(at) {
             Some(link) => write_to(link, call, now),
-            None => Err(call),
+            None => Err(NotSent {
+                call,
+                why: Refusal::NoConnection,
+            }),
         }
     }
 
