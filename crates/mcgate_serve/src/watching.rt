@@ -263,7 +263,7 @@ fn server_of<W: Wire>(
         is_up: link.is_connected && !link.is_late(),
         is_late: link.is_late(),
         is_unknown,
-        fails_at_once: is_unknown || link.is_held_back(end.sockets.wire.last_millis()),
+        fails_at_once: is_unknown || link.refusal(end.sockets.wire.last_millis()).is_some(),
         connections: link.tally.stood,
         calls_out: link.calls.len() as u64,
         failures: failures_by_cause(alloc, link)?,

@@ -228,7 +228,7 @@ module _ (h : List WireEvent) (cs : Clients) (ls : List Link) (at : ℕ) where
           clients = agree_told h (fed_in past) (gave_in past) (fed_in (step ∷ past)) (gave_in (step ∷ past)) cs (λ j. (refl, refl)) was.clients;
           told = all_told past (step ∷ []) cs (λ j. (refl, refl, refl, refl)) was.told;
           links = λ j link other there. line_stays h h j (step ∷ []) past link (λ c of_c. untouched c h) refl (λ n ask is. (refl, refl, refl)) (was.links j link other there);
-          this = λ link there. (noted_fails (Some causes.NoRoom) at (Unseen unshown.NoRoom) past h link (was.this link there), past, refl);
+          this = λ link there. (noted_fails (Some causes.NoRoom) at (Unseen unshown.NoRoom) past h link (was.this link there), (past, refl));
           gone = λ conn id of_id. had_quiet past (step ∷ []) h h cs cs id conn (untouched conn h) refl of_id was.gone;
           shown = (tt, was.shown);
           shut = was.shut;

@@ -568,12 +568,23 @@ noted_agrees {h} {cs} {ls} at obstacle a b past does told shown was =
 
 -- one in hand is still to be asked
 pub called_due :
-    {Q : List Step → AnEnd → Type 0} {Is : Step → Type 0} {a b : AnEnd} (number at since : ℕ) (ask : Ask) → since ≡ time a.history → AllGoFrom (AgreesDue number at since) Q Is a b → AllGoFrom (AgreesCalled number at ask) Q Is a b
-called_due {a = a} number at since ask clock g =
-    go_between (λ past was. (was.0, record { ask = ask; due = one_due past number at ask was.1 was.0.orderly was.2.orderly; given = given past was; apart = λ link there. one_apart past number at ask was.1 (said_asks link.waiting.items) was.0.orderly was.2.orderly (was.2.links at link there).due })) (λ past was. was) g
+    {Q : List Step → AnEnd → Type 0} {Is : Step → Type 0} {a b : AnEnd} (number at server since : ℕ) (ask : Ask) → at ≡ server → since ≡ time a.history → AllGoFrom (AgreesDue number at since) Q Is a b
+    → AllGoFrom (AgreesCalled number server ask) Q Is a b
+called_due {Q} {Is} {a} {b} number at server since ask same clock g = subst (λ n. AllGoFrom (AgreesCalled number n ask) Q Is a b) same (go_between due (λ past was. was) g)
   where
     given : (past : List Step) → AgreesCalled number at ask past a → given_in past number ≤ since
-    given past was = let same : given_in past number ≡ since = was.3 ∙ was.0.clock ∙ sym clock in omega (arith, same)
+    given past was = let counted : given_in past number ≡ since = was.3 ∙ was.0.clock ∙ sym clock in omega (arith, counted)
+
+    due : (past : List Step) → AgreesCalled number at ask past a → AgreesDue number at since past a
+    due past was = (
+      was.0,
+      record {
+        ask = ask;
+        due = one_due past number at ask was.1 was.0.orderly was.2.orderly;
+        given = given past was;
+        apart = λ link there. one_apart past number at ask was.1 (said_asks link.waiting.items) was.0.orderly was.2.orderly (was.2.links at link there).due;
+      },
+    )
 
 pub sent_due :
     {h h' : List WireEvent} {cs cs' : Clients} {ls ls' : List Link} (at : ℕ) (call : SentCall) (core : ServedCore) → EndsStay h h' cs cs' ls ls'

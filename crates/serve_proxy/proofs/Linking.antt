@@ -47,8 +47,10 @@ use Rattle.serve_links.proofs.Shutting.{shut_quiet}
 use Rattle.serve_proxy.specs.Ends.{link_lines, LinksTake, LinksGive, LineTakes, HoldsAwaited, HoldsAwaitedAt, IsOpenAt, AsksIn}
 use Rattle.serve_proxy.proofs.Going.{line_took, line_gave, had_quiet, numbers_kept, told_kept, set_here}
 use Rattle.std.proofs.lemmas.Option.{slice_get_read}
+use Rattle.core_accepted.specs.declared.tally.Unshown.TheVariants as unshown
 use Rattle.serve_links.specs.declared.refusal.Refusal.{Refusal}
 use Rattle.serve_links.specs.declared.refusal.Refusal.TheVariants as refusals
+use Rattle.serve_links.specs.declared.refusal.NotSent.{NotSent}
 use Rattle.serve_links.specs.Unsent.{IsRefused}
 use Rattle.serve_proxy.specs.Unsent.{IsRefusedAt}
 use Rattle.serve_proxy.proofs.Staying.{line_lent, none_kept}
@@ -159,9 +161,24 @@ begun_not at dialect x y h h' opening.NoAddress opens none isnt = none_kept x.co
 begun_not at dialect x y h h' opening.Failed opens none isnt = none_kept x.conn y.conn none opens.1.conn
 begun_not at dialect x y h h' opening.NoMemory opens none isnt = none_kept x.conn y.conn none opens.3.conn
 
--- the link at a place has its calls fail at once, or has no connection
+-- the same of one that isn't sent
+pub given_late :
+    (links : List Link) (at : ℕ) (x y : Link) (r : Option NotSent) → at < length links → x ≡ get_or links at x → y ≡ record x { waiting = y.waiting }
+    → MatchOption r (y.waiting.items ≡ x.waiting.items) (λ it. x.waiting.items ≡ it.call ∷ y.waiting.items)
+    → MatchOption r (link_lines (set links at y) ≡ link_lines links) (λ it. LinksGive at it.call links (set links at y))
+given_late links at x y None within was is did = line_lent links at x y was (line_waiting x y is did)
+given_late links at x y (Some it) within was is did = λ h cs core. line_gave links at x y it.call within was (line_takes x y it.call [] y.waiting.items is did refl)
+
+-- why a call isn't sent over the link at a place
 pub refused_set : (why : Refusal) (links : List Link) (at since now : ℕ) (y : Link) → at < length links → IsRefused why since now y → IsRefusedAt why at since now (set links at y)
 refused_set why links at since now y within is = subst (λ o. MatchOption o (why ≡ refusals.NoConnection) (IsRefused why since now)) (sym (set_here links at y within)) is
+
+pub starved_set : (why : Refusal) (links : List Link) (at since now : ℕ) (y : Link) → at < length links → why ≡ refusals.Unseen unshown.NoMemory → IsRefusedAt why at since now (set links at y)
+starved_set why links at since now y within is = subst (λ w. IsRefusedAt w at since now (set links at y)) (sym is) (refused_set (refusals.Unseen unshown.NoMemory) links at since now y within tt)
+
+pub refused_late : (r : Option NotSent) (links : List Link) (at now : ℕ) (y : Link) → at < length links → IfSome r (λ it. IsRefused it.why it.call.since now y) → IfSome r (λ it. IsRefusedAt it.why at it.call.since now (set links at y))
+refused_late None links at now y within is = tt
+refused_late (Some it) links at now y within is = refused_set it.why links at it.call.since now y within is
 
 pub refused_none : (links : List Link) (at since now : ℕ) → slice_get links at ≡ None → IsRefusedAt refusals.NoConnection at since now links
 refused_none links at since now none = subst (λ o. MatchOption o (refusals.NoConnection ≡ refusals.NoConnection) (IsRefused refusals.NoConnection since now)) (sym none) refl

@@ -41,7 +41,7 @@ fn send_looked<W: Wire, N: Net>(
     ensures ends { AllSendFrom (AgreesTicket ticket) W.history core.old sockets.old core.new sockets.new }
 {
     let at = ticket.server.number() as usize;
-    let opened = sockets.links.open(net, &mut sockets.wire, at);
+    let opened = sockets.links.takes_call(net, &mut sockets.wire, at);
     let bulk = sockets.bulk_of(id, at, &ticket);
     let call = SentCall {
         ticket,

@@ -137,16 +137,36 @@ fn barred(link: &Link) -> Option<Refusal>
     None
 }
 
-// The call is written to the link, or given back with why it isn't sent. `now` is in microseconds.
-fn write_to(link: &mut Link, call: SentCall, now: u64) -> Result<(), NotSent>
+// Memory was refused for the call.
+fn starved(call: SentCall) -> NotSent
+    ensures { result ≡ record { call = call; why = Refusal.Unseen Unshown.NoMemory } }
+{
+    NotSent {
+        call,
+        why: Refusal::Unseen(Unshown::NoMemory),
+    }
+}
+
+// The call waits until the link takes more, or is given back.
+fn wait_for(link: &mut Link, call: SentCall) -> Result<(), NotSent>
     ensures ok { OnOk result (LineTakes call link.old link.new) }
-    ensures awaited { OnOk result (HoldsAwaited link.old) }
+    ensures err { IfErr result (λ it. (it.call ≡ call) × (line_of link.new ≡ line_of link.old)) }
+    ensures why { IfErr result (λ it. it.why ≡ Refusal.Unseen Unshown.NoMemory) }
+{
+    match link.let_wait(call) {
+        Ok(()) => Ok(()),
+        Err(call) => Err(starved(call)),
+    }
+}
+
+// The call is written to the link, which takes calls, or given back.
+fn ask_over(link: &mut Link, call: SentCall, now: u64) -> Result<(), NotSent>
+    requires late { link.old.late.items ≡ [] }
+    requires emptied { awaits_flush link.old.awaits_dialect ≡ false }
+    ensures ok { OnOk result (LineTakes call link.old link.new) }
     ensures err { IfErr result (λ it. (it.call ≡ call) × (line_of link.new ≡ line_of link.old)) }
     ensures why { IfErr result (λ it. (since at : ℕ) → IsRefused it.why since at link.new) }
 {
-    if let Some(why) = barred(link) {
-        return Err(NotSent { call, why });
-    }
     let Some(conn) = link.conn.as_mut() else {
         return Err(NotSent {
             call,
@@ -155,10 +175,20 @@ fn write_to(link: &mut Link, call: SentCall, now: u64) -> Result<(), NotSent>
     };
     match link.calls.begin(call, now, &mut conn.unsent) {
         Ok(()) => Ok(()),
-        Err(call) => Err(NotSent {
-            call,
-            why: Refusal::Unseen(Unshown::NoMemory),
-        }),
+        Err(call) => Err(starved(call)),
+    }
+}
+
+// The call is written to the link, or given back with why it isn't sent. `now` is in microseconds.
+fn write_to(link: &mut Link, call: SentCall, now: u64) -> Result<(), NotSent>
+    ensures ok { OnOk result (LineTakes call link.old link.new) }
+    ensures awaited { OnOk result (HoldsAwaited link.old) }
+    ensures err { IfErr result (λ it. (it.call ≡ call) × (line_of link.new ≡ line_of link.old)) }
+    ensures why { IfErr result (λ it. (since at : ℕ) → IsRefused it.why since at link.new) }
+{
+    match barred(link) {
+        Some(why) => Err(NotSent { call, why }),
+        None => ask_over(link, call, now),
     }
 }
 
@@ -630,7 +660,12 @@ impl Links {
     }
 
     /// A call may go out on the link, which has a connection, or one was begun; or why it isn't sent.
-    pub fn open<W: Wire, N: Net>(&mut self, net: &N, wire: &mut W, at: usize) -> Result<(), Refusal>
+    pub fn takes_call<W: Wire, N: Net>(
+        &mut self,
+        net: &N,
+        wire: &mut W,
+        at: usize,
+    ) -> Result<(), Refusal>
         ensures ends { (clients : Clients) → EndsGo (W.history wire.old) (W.history wire.new) clients clients self.old.all.items self.new.all.items }
         ensures there { OnOk result (IsOpenAt at self.new.all.items) }
         ensures free { OnOk result (TakesCallsAt at (time (W.history wire.old)) self.old.all.items) }
@@ -640,7 +675,8 @@ impl Links {
         let Some(link) = self.all.get_mut(at) else {
             return Err(Refusal::NoConnection);
         };
-        if let Some(why) = link.refusal(now) {
+        let refusal = link.refusal(now);
+        if let Some(why) = refusal {
             return Err(why);
         }
         if link.conn.is_some() {
@@ -691,17 +727,11 @@ impl Links {
         ensures err { IfErr result (λ it. (it.call ≡ call) × (link_lines self.new.all.items ≡ link_lines self.old.all.items)) }
         ensures why { IfErr result (λ it. (since now : ℕ) → IsRefusedAt it.why at since now self.new.all.items) }
     {
-        let Some(link) = self.all.get_mut(at) else {
-            return Err(NotSent {
+        match self.all.get_mut(at) {
+            Some(link) => wait_for(link, call),
+            None => Err(NotSent {
                 call,
                 why: Refusal::NoConnection,
-            });
-        };
-        match link.let_wait(call) {
-            Ok(()) => Ok(()),
-            Err(call) => Err(NotSent {
-                call,
-                why: Refusal::Unseen(Unshown::NoMemory),
             }),
         }
     }

@@ -1,7 +1,7 @@
 //! What whoever runs an end tells its sockets and asks of them: where servers are, how long they are waited for, what happened to them, and
 //! who is accepted. Nothing here knows the core.
 
-ghost use Rattle.std.specs.Prelude.{◌≡◌, ◌∷◌, true};
+ghost use Rattle.std.specs.Prelude.{◌≡◌, ◌≢◌, ◌≤◌, ◌∷◌, true, IsSome, MatchOption, option_map, slice_get};
 ghost use Rattle.serde_json.specs.View.{view};
 ghost use Rattle.serve_wire.specs.Events.{looks_up};
 ghost use Rattle.serve_links.specs.Lateness.{usual_limits};
@@ -79,6 +79,8 @@ impl<W: Wire> Sockets<W> {
     /// ([`bound_clients`](crate::ProxyEnd::bound_clients)), since that was told last. It is told once a second at most.
     pub fn next_stalled(&mut self) -> Option<u64>
         ensures ends { Stay W.history self.old self.new }
+        ensures told { MatchOption result (self.new.stalls ≡ self.old.stalls) (λ closed. (closed ≡ self.old.stalls.closed) × (self.old.stalls.closed ≢ 0) × (self.new.stalls.closed ≡ 0)) }
+        ensures due { (self.old.stalls.closed ≢ 0) → self.old.stalls.quiet_until ≤ self.old.time → IsSome result }
     {
         self.stalls.next_closed(self.time)
     }
@@ -106,7 +108,9 @@ impl<W: Wire> Sockets<W> {
     }
 
     /// The link to the server of this number.
-    pub fn link(&self, server: usize) -> Option<&Link> {
+    pub fn link(&self, server: usize) -> Option<&Link>
+        ensures { option_map (λ link. link.now) result ≡ slice_get self.now.links.all.items server }
+    {
         self.links.all.get(server)
     }
 }

@@ -1,7 +1,7 @@
 //! Clients that take nothing of much that is to be sent to them, or for whom too much is held: since when, and which are closed for that; and
 //! each one's share, where much is held for all.
 
-ghost use Rattle.std.specs.Prelude.{IfSome, [], ◌≡◌, ◌≢◌, ◌↔◌, ℕ, ◌<◌, ◌≤◌, ◌-◌, IsTrue, false, OnOk, None, length, slice_set};
+ghost use Rattle.std.specs.Prelude.{IfSome, IsSome, MatchOption, [], ◌≡◌, ◌≢◌, ◌↔◌, ℕ, ◌<◌, ◌≤◌, ◌-◌, IsTrue, false, OnOk, None, length, slice_set};
 ghost use Rattle.serve_proxy.specs.Ends.{Stay, AllGoOn, AllGoBreaking};
 ghost use Rattle.serve_proxy.specs.Stalls.{since_of, since_by, HasStalled, OnlyStalled, HasMost, OnlyMost, greater_of, held_by_all, holders};
 ghost use Rattle.serve_proxy.specs.Shares.{three_quarters, share_if, share_by};
@@ -215,7 +215,10 @@ impl Stalls {
     }
 
     /// How many were closed since that was told, if some were and it may be told by now.
-    pub fn next_closed(&mut self, now: u64) -> Option<u64> {
+    pub fn next_closed(&mut self, now: u64) -> Option<u64>
+        ensures told { MatchOption result (self.new ≡ self.old) (λ closed. (closed ≡ self.old.closed) × (self.old.closed ≢ 0) × (self.new.closed ≡ 0)) }
+        ensures due { (self.old.closed ≢ 0) → self.old.quiet_until ≤ now → IsSome result }
+    {
         if self.closed == 0 || now < self.quiet_until {
             return None;
         }

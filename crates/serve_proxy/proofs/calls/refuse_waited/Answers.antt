@@ -4,4 +4,4 @@ use Rattle.serve_proxy.proofs.Staying.{stay_clients}
 use Rattle.serve_proxy.proofs.calls.refuse_waited.Goals as goal
 
 pub returns : goal.returns
-returns g c = record { ends = and_then (sent_due c.args.at c.args.call c.args.core.now (stay_clients _ _ _ _ c.end_waiting.ensures.ends)) c.refuse_call.ensures.ends; told = refl }
+returns g c = record { ends = and_then (sent_due c.args.at c.args.it.call c.args.core.now (stay_clients _ _ _ _ c.end_waiting.ensures.ends)) c.refuse.ensures.ends; told = refl }

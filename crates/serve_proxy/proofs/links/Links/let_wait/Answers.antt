@@ -1,13 +1,12 @@
+use Rattle.std.proofs.Common.{◌≡◌}
 use Rattle.std.proofs.lemmas.Result.{IfErr-weaker}
 use Rattle.serve_links.proofs.Failing.{on_ok}
-use Rattle.serve_proxy.proofs.Linking.{line_waiting, waits, taken, not_taken}
+use Rattle.serve_proxy.proofs.Linking.{taken, not_taken, starved_set}
 use Rattle.serve_proxy.proofs.links.Links.let_wait.Goals as goal
 
 pub returns-in-Some : goal.returns-in-Some
-returns-in-Some c =
-    let x = c.in-Some.link.now in
-    let y = c.let_wait.new.self in
-    record {
-      ok = on_ok c.let_wait.result _ _ (λ more. taken c.args.self.now.all.items c.args.at c.in-Some.link.now y c.args.call c.in-Some.ensures.item.3.0 c.in-Some.ensures.value (waits x y c.args.call c.let_wait.ensures.rest more)) c.let_wait.ensures.ok;
-      err = IfErr-weaker c.let_wait.result _ _ (λ given did. not_taken c.args.self.now.all.items c.args.at c.in-Some.link.now y c.args.call given c.in-Some.ensures.value (did.0, line_waiting x y c.let_wait.ensures.rest did.1)) c.let_wait.ensures.err;
-    }
+returns-in-Some c = record {
+  ok = on_ok c.wait_for.result _ _ (λ takes. taken c.args.self.now.all.items c.args.at c.in-Some.link.now c.wait_for.new.link c.args.call c.in-Some.ensures.item.3.0 c.in-Some.ensures.value takes) c.wait_for.ensures.ok;
+  err = IfErr-weaker c.wait_for.result _ _ (λ it did. not_taken c.args.self.now.all.items c.args.at c.in-Some.link.now c.wait_for.new.link c.args.call it.call c.in-Some.ensures.value did) c.wait_for.ensures.err;
+  why = IfErr-weaker c.wait_for.result _ _ (λ it is. λ since now. starved_set it.why c.args.self.now.all.items c.args.at since now c.wait_for.new.link c.in-Some.ensures.item.3.0 is) c.wait_for.ensures.why;
+}
