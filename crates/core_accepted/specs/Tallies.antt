@@ -121,9 +121,7 @@ with_opening (Err fault) tally = with_refusal tally
 -- the place of what nothing shows among all
 abbrev pub unshown_number : Unshown → ℕ
 unshown_number unshown.NoMemory = 0
-unshown_number unshown.Retired = 1
-unshown_number unshown.LeftAlone = 2
-unshown_number unshown.NoRoom = 3
+unshown_number unshown.NoRoom = 1
 
 -- something was done once more for what nothing shows
 abbrev pub with_unshown : Unshown → CoreTally → CoreTally
@@ -131,7 +129,7 @@ with_unshown why tally = record tally { unshown = more_at (unshown_number why) t
 
 -- nothing was done yet, and no server has a place
 abbrev pub nothing_done : CoreTally
-nothing_done = record { opened = 0; refused = 0; bad_messages = 0; ended = 0; calls = 0; answered = 0; failed = 0; errors = replicate 12 0; items = replicate 12 0; acknowledged = replicate 12 0; others = replicate 12 0; calls_at = []; answered_at = []; failed_at = []; unplaced = 0; unshown = replicate 4 0 }
+nothing_done = record { opened = 0; refused = 0; bad_messages = 0; ended = 0; calls = 0; answered = 0; failed = 0; errors = replicate 12 0; items = replicate 12 0; acknowledged = replicate 12 0; others = replicate 12 0; calls_at = []; answered_at = []; failed_at = []; unplaced = 0; unshown = replicate 2 0 }
 
 -- some places were added, with no count
 abbrev pub AddsPlaces : List ℕ → List ℕ → Type 0

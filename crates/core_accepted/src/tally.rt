@@ -47,7 +47,7 @@ pub struct CoreTally {
     /// was refused for that.
     pub unplaced: u64,
     // For each of what nothing shows, how often something was done for it.
-    unshown: [u64; 4],
+    unshown: [u64; 2],
 }
 
 /// For what a call isn't sent, or a server's connection is given up, though nothing shows it that came or was sent.
@@ -55,10 +55,6 @@ pub struct CoreTally {
 pub enum Unshown {
     /// Memory was refused for the call.
     NoMemory,
-    /// No call goes out to the server for now.
-    Retired,
-    /// The server failed too many times in a row, and is tried by a call that is out there.
-    LeftAlone,
     /// There was no room for what came of the server: more came than is held, or memory was refused for it.
     NoRoom,
 }
@@ -111,13 +107,11 @@ fn place_of(op: Op) -> usize
 // The place of what nothing shows among all.
 fn unshown_place(why: Unshown) -> usize
     ensures place { result ≡ unshown_number why }
-    ensures bound { result < 4 }
+    ensures bound { result < 2 }
 {
     match why {
         Unshown::NoMemory => 0,
-        Unshown::Retired => 1,
-        Unshown::LeftAlone => 2,
-        Unshown::NoRoom => 3,
+        Unshown::NoRoom => 1,
     }
 }
 
@@ -160,7 +154,7 @@ impl CoreTally {
             answered_at: ServerCounts::new(alloc),
             failed_at: ServerCounts::new(alloc),
             unplaced: 0,
-            unshown: [0; 4],
+            unshown: [0; 2],
         }
     }
 

@@ -11,7 +11,7 @@ use Rattle.serve_wire.specs.Events.{WireEvent}
 use Rattle.serve_links.specs.declared.link.Link.{Link}
 use Rattle.serve_links.specs.declared.settings.LinkLimits.{LinkLimits}
 use Rattle.serve_links.specs.declared.settings.Settings.{Settings}
-use Rattle.serve_links.specs.CoreSteps.{Obstacle, WaitedLong, StoreLate, ForeignCame, Unseen, Step, Opened, NotOpened, Fed, Polled, Stopped, Settled, Gave, Closed, LeftLine, Broke, Ticked, Loaded, Linked, Asked, Greeted, Spelled, Late, CameLate, Lost, Noted, StepsAreOf, IsOfTurn}
+use Rattle.serve_links.specs.CoreSteps.{Obstacle, WaitedLong, StoreLate, ForeignCame, LeftAlone, Unseen, Step, Opened, NotOpened, Fed, Polled, Stopped, Settled, Gave, Closed, LeftLine, Broke, Ticked, Loaded, Linked, Asked, Greeted, Spelled, Late, CameLate, Lost, Noted, StepsAreOf, IsOfTurn}
 use Rattle.serve_links.specs.Lateness.{usual_limits}
 use Rattle.serve_links.specs.Story.{AnEnd, AllGo, ObstacleIsByLimit, IsByLimit, most_of, texts_of, servers_of}
 use Rattle.serve_proxy.specs.declared.proxy.ProxyEnd.{ProxyEnd}
@@ -26,7 +26,7 @@ use Rattle.mcgate_serve.specs.declared.remembering.Kept.{Kept}
 use Rattle.mcgate_serve.specs.Remembers.{StandsIn, StandsIfLoaded}
 use Rattle.mcgate_serve.specs.InFleet.{StandsBeside, in_use_after}
 use Rattle.mcgate_serve.specs.Serves.{TextSaysAfter, MayLoad, MayLoadBeside, MayLoadText, LoadsOne, LoadsText, IsServeStep, proxy_of}
-use Rattle.mcgate_serve.specs.Limits.{IsTextLimit, call_limit, connect_limit, ObstacleIsByText, UsesText, UseTexts, KeepsToTexts, ServesByTexts, GoesOnFrom}
+use Rattle.mcgate_serve.specs.Limits.{IsTextLimit, call_limit, connect_limit, failure_limit, ObstacleIsByText, UsesText, UseTexts, KeepsToTexts, ServesByTexts, GoesOnFrom}
 
 false_true : false ≡ true → ⊥
 false_true e = cc
@@ -75,6 +75,7 @@ obstacle_more : (usual : LinkLimits) (names more : List (List ℕ)) (text : List
 obstacle_more usual names more text at (WaitedLong number limit) u = (u.0, get_more names more at u.0 u.1, u.2)
 obstacle_more usual names more text at (StoreLate limit) u = (u.0, get_more names more at u.0 u.1, u.2)
 obstacle_more usual names more text at ForeignCame u = tt
+obstacle_more usual names more text at (LeftAlone limit) u = (u.0, get_more names more at u.0 u.1, u.2)
 obstacle_more usual names more text at (Unseen why) u = tt
 
 uses_more : (usual : LinkLimits) (names more : List (List ℕ)) (before after : List ℕ) (step : Step) → UsesText usual names before after step → UsesText usual (names ++ more) before after step
@@ -123,10 +124,11 @@ names_of (link ∷ links) = ap (λ l. link.text.items ∷ l) (names_of links)
 abbrev MayBe : LinkLimits → List (List ℕ) → List ℕ → (ℕ → Option LinkLimits) → Type 0
 MayBe usual names text most = (of : LinkLimits → ℕ) (at limit : ℕ) → option_map of (most at) ≡ Some limit → IsTextLimit of usual names text at limit
 
-obstacle_uses : (usual : LinkLimits) (names : List (List ℕ)) (text : List ℕ) (most : ℕ → Option LinkLimits) → MayBe usual names text most → (at : ℕ) (obstacle : Obstacle) → ObstacleIsByLimit (option_map call_limit (most at)) obstacle → ObstacleIsByText usual names text at obstacle
+obstacle_uses : (usual : LinkLimits) (names : List (List ℕ)) (text : List ℕ) (most : ℕ → Option LinkLimits) → MayBe usual names text most → (at : ℕ) (obstacle : Obstacle) → ObstacleIsByLimit (most at) obstacle → ObstacleIsByText usual names text at obstacle
 obstacle_uses usual names text most may at (WaitedLong number limit) late = may call_limit at limit late
 obstacle_uses usual names text most may at (StoreLate limit) late = may call_limit at limit late
 obstacle_uses usual names text most may at ForeignCame late = tt
+obstacle_uses usual names text most may at (LeftAlone limit) late = may failure_limit at limit late
 obstacle_uses usual names text most may at (Unseen why) late = tt
 
 -- a turn leaves it in use

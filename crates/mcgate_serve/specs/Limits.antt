@@ -4,7 +4,7 @@ use Rattle.route_json.specs.Servers.{Addresses}
 use Rattle.serve_wire.specs.Events.{WireEvent}
 use Rattle.serve_links.specs.declared.settings.LinkLimits.{LinkLimits}
 use Rattle.serve_links.specs.declared.settings.Settings.{Settings}
-use Rattle.serve_links.specs.CoreSteps.{Obstacle, WaitedLong, StoreLate, ForeignCame, Unseen, Step, Opened, NotOpened, Fed, Polled, Stopped, Settled, Gave, Closed, LeftLine, Broke, Ticked, Loaded, Linked, Asked, Greeted, Spelled, Late, CameLate, Lost, Noted}
+use Rattle.serve_links.specs.CoreSteps.{Obstacle, WaitedLong, StoreLate, ForeignCame, LeftAlone, Unseen, Step, Opened, NotOpened, Fed, Polled, Stopped, Settled, Gave, Closed, LeftLine, Broke, Ticked, Loaded, Linked, Asked, Greeted, Spelled, Late, CameLate, Lost, Noted}
 use Rattle.serve_links.specs.Lateness.{usual_limits}
 use Rattle.serve_links.specs.Story.{AnEnd, texts_of, servers_of}
 use Rattle.serve_proxy.specs.declared.proxy.ProxyEnd.{ProxyEnd}
@@ -22,18 +22,22 @@ call_limit limits = limits.call_ms
 abbrev pub connect_limit : LinkLimits → ℕ
 connect_limit limits = limits.connect_ms
 
+abbrev pub failure_limit : LinkLimits → ℕ
+failure_limit limits = limits.fail_limit
+
 -- these are the first of the names
 abbrev pub HasNames : Addresses → List (List ℕ) → Type 0
 HasNames servers names = (more : List (List ℕ)) × (names ≡ servers ++ more)
 
--- a call that waits, or a store, has taken longer than the limit of its server by that text
+-- a call that waits, or a store, has taken longer than the limit of its server by that text, or a server is left alone after as many failures as that says
 abbrev pub ObstacleIsByText : (usual : LinkLimits) (names : List (List ℕ)) (text : List ℕ) (at : ℕ) → Obstacle → Type 0
 ObstacleIsByText usual names text at (WaitedLong number limit) = IsTextLimit call_limit usual names text at limit
 ObstacleIsByText usual names text at (StoreLate limit) = IsTextLimit call_limit usual names text at limit
 ObstacleIsByText usual names text at ForeignCame = Unit {0}
+ObstacleIsByText usual names text at (LeftAlone limit) = IsTextLimit failure_limit usual names text at limit
 ObstacleIsByText usual names text at (Unseen why) = Unit {0}
 
--- a step, and the text in use before it and after it: a call is late, or has waited long, by the limit of its server by that text, a connection that is given up has that of its server, and a load alone brings another text, which says what is loaded: its servers are those of these names, by their numbers
+-- a step, and the text in use before it and after it: a call is late, or has waited long, or a server is left alone, by the limit of its server by that text, a connection that is given up has that of its server, and a load alone brings another text, which says what is loaded: its servers are those of these names, by their numbers
 abbrev pub UsesText : (usual : LinkLimits) (names : List (List ℕ)) (before after : List ℕ) → Step → Type 0
 UsesText usual names before after (Late at number limit now) = (after ≡ before) × IsTextLimit call_limit usual names before at limit
 UsesText usual names before after (Loaded configuration generation) = (servers : Addresses) × TextSaysAfter servers after configuration × HasNames configuration.servers names

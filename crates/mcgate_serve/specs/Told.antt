@@ -61,7 +61,7 @@ AreOfServers tally servers rows = Each (IsRowOfServer tally servers) rows
 
 -- how often something was done for what nothing shows
 abbrev pub unshown_of : CoreTally → UnshownNumbers
-unshown_of tally = record { no_memory = of_unshown tally unshown.NoMemory; retired = of_unshown tally unshown.Retired; left_alone = of_unshown tally unshown.LeftAlone; no_room = of_unshown tally unshown.NoRoom }
+unshown_of tally = record { no_memory = of_unshown tally unshown.NoMemory; no_room = of_unshown tally unshown.NoRoom }
 
 -- these numbers have what the core counts, also of servers
 pub record HasTally (core : ServedCore) (servers : Addresses) (numbers : Numbers) : Type 0 where

@@ -165,8 +165,6 @@ fn unshown_numbers<W: Wire>(end: &ProxyEnd<W>) -> UnshownNumbers
     let of_core = end.core_tally();
     UnshownNumbers {
         no_memory: of_core.unshown(Unshown::NoMemory),
-        retired: of_core.unshown(Unshown::Retired),
-        left_alone: of_core.unshown(Unshown::LeftAlone),
         no_room: of_core.unshown(Unshown::NoRoom),
     }
 }

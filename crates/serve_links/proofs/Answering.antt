@@ -1,5 +1,5 @@
 -- Answers that settle calls, as steps of a walk.
-use Rattle.std.proofs.Common.{◌≡◌, ℕ, ◌≤◌, false, if◌then◌else◌, List, [], ◌∷◌, ◌++◌, length, take, drop, Option, Some, None, refl, sym, ap, ◌∙◌, subst, append_assoc, append-nil, length-take, arith}
+use Rattle.std.proofs.Common.{◌≡◌, ℕ, ◌≤◌, if◌then◌else◌, List, [], ◌∷◌, ◌++◌, length, take, drop, Option, Some, None, refl, sym, ap, ◌∙◌, subst, append_assoc, append-nil, length-take, arith}
 use Rattle.std.proofs.lemmas.List.{take-append-drop}
 use Rattle.mc_types.specs.declared.ask.Ask.{Ask}
 use Rattle.mc_types.specs.declared.ask.Dialect.{Dialect}
@@ -23,6 +23,16 @@ use Rattle.serve_links.proofs.Due.{said_both, KeepsBut, keeps_settled, keeps_twi
 use Rattle.serve_links.proofs.Walked.{walked, of_both}
 use Rattle.serve_links.proofs.Showing.{IsUnlost}
 
+-- how many connections in a row were given up since the server answered last, once these calls were answered: none, or still so many
+abbrev pub failed_by : List SentCall → ℕ → ℕ
+failed_by [] failed = failed
+failed_by (call ∷ calls) failed = 0
+
+failed_twice : (first later : List SentCall) (failed : ℕ) → failed_by (first ++ later) failed ≡ failed_by later (failed_by first failed)
+failed_twice [] later failed = refl
+failed_twice (call ∷ first) [] failed = refl
+failed_twice (call ∷ first) (other ∷ later) failed = refl
+
 -- the walk that answers to calls make, and what it tells of their server
 pub record Answers (at : ℕ) (sent : List SentCall) (bytes : List ℕ) (a : ServedCore) (sent' : List SentCall) (rest : List ℕ) (b : ServedCore) : Type 0 where
   pub steps : List Step
@@ -37,7 +47,7 @@ pub record Answers (at : ℕ) (sent : List SentCall) (bytes : List ℕ) (a : Ser
   pub whole : bytes ≡ spelled ++ rest
   pub orderly :
       (past : List Step) → IsOrderly past → TellsCallsOut past a → AreCalled past at (said_asks sent) → (talk_in past at).out ≡ said_asks sent → (talk_in past at).awaits ≡ None → (talk_in past at).late ≡ []
-      → IsOrderly (steps ++ past) × (talk_in (steps ++ past) at ≡ record (talk_in past at) { told = (talk_in past at).told ++ spelled; out = said_asks sent' })
+      → IsOrderly (steps ++ past) × (talk_in (steps ++ past) at ≡ record (talk_in past at) { told = (talk_in past at).told ++ spelled; out = said_asks sent'; failed = failed_by gone (talk_in past at).failed })
 
 spells_within : (dialect : Dialect) (ask : Ask) (bytes : List ℕ) (answer : Answer) (used : ℕ) → SpellsIn dialect ask bytes answer used → used ≤ length bytes
 spells_within Classic ask bytes answer used s = spelled_within ask bytes answer used s
@@ -117,10 +127,10 @@ one at (call ∷ calls) bytes a answer sent' rest b s = record {
 
     told :
         (past : List Step) → (talk_in past at).out ≡ said_asks (call ∷ calls)
-        → talk_in (Settled number (Answered answer) ∷ Spelled at number ask answer spelled ∷ past) at ≡ record (talk_in past at) { told = (talk_in past at).told ++ spelled; out = said_asks sent' }
+        → talk_in (Settled number (Answered answer) ∷ Spelled at number ask answer spelled ∷ past) at ≡ record (talk_in past at) { told = (talk_in past at).told ++ spelled; out = said_asks sent'; failed = 0 }
     told past out =
         ap (λ t. if t then with_first_answer spelled (talk_in past at) else talk_in past at) (equal at)
-        ∙ ap (λ (l : List SaidAsk). record (talk_in past at) { told = (talk_in past at).told ++ spelled; out = l }) (ap behind out ∙ ap said_asks (sym s.settles.1))
+        ∙ ap (λ (l : List SaidAsk). record (talk_in past at) { told = (talk_in past at).told ++ spelled; out = l; failed = 0 }) (ap behind out ∙ ap said_asks (sym s.settles.1))
 
 -- one and then others
 both :
@@ -143,16 +153,17 @@ both at sent bytes a mid left m sent' rest b f g = record {
   where
     orderly :
         (past : List Step) → IsOrderly past → TellsCallsOut past a → AreCalled past at (said_asks sent) → (talk_in past at).out ≡ said_asks sent → (talk_in past at).awaits ≡ None → (talk_in past at).late ≡ []
-        → IsOrderly ((g.steps ++ f.steps) ++ past) × (talk_in ((g.steps ++ f.steps) ++ past) at ≡ record (talk_in past at) { told = (talk_in past at).told ++ (f.spelled ++ g.spelled); out = said_asks sent' })
+        → IsOrderly ((g.steps ++ f.steps) ++ past) × (talk_in ((g.steps ++ f.steps) ++ past) at ≡ record (talk_in past at) { told = (talk_in past at).told ++ (f.spelled ++ g.spelled); out = said_asks sent'; failed = failed_by (f.gone ++ g.gone) (talk_in past at).failed })
     orderly past o tells called out off alone =
         let first = f.orderly past o tells called out off alone in
         let told = (walks_tell_calls.goes_on f.steps past a m tells f.walks).0 in
         let left = sent_gone at past (f.steps ++ past) f.gone mid [] (f.keeps past) (subst (λ (l : List SentCall). AreCalled past at (said_asks l)) f.parts called) tt in
         let later = g.orderly (f.steps ++ past) first.0 told left.called (ap (λ (t : Talk). t.out) first.1) (ap (λ (t : Talk). t.awaits) first.1 ∙ off) (ap (λ (t : Talk). t.late) first.1 ∙ alone) in
-        subst (λ l. IsOrderly l × (talk_in l at ≡ record (talk_in past at) { told = (talk_in past at).told ++ (f.spelled ++ g.spelled); out = said_asks sent' })) (sym (append_assoc g.steps f.steps past)) (
+        subst (λ l. IsOrderly l × (talk_in l at ≡ record (talk_in past at) { told = (talk_in past at).told ++ (f.spelled ++ g.spelled); out = said_asks sent'; failed = failed_by (f.gone ++ g.gone) (talk_in past at).failed })) (sym (append_assoc g.steps f.steps past)) (
           later.0,
-          later.1 ∙ ap (λ (t : Talk). record t { told = t.told ++ g.spelled; out = said_asks sent' }) first.1
-              ∙ ap (λ (l : List ℕ). record (talk_in past at) { told = l; out = said_asks sent' }) (append_assoc (talk_in past at).told f.spelled g.spelled),
+          later.1 ∙ ap (λ (t : Talk). record t { told = t.told ++ g.spelled; out = said_asks sent'; failed = failed_by g.gone t.failed }) first.1
+              ∙ ap (λ (l : List ℕ). record (talk_in past at) { told = l; out = said_asks sent'; failed = failed_by g.gone (failed_by f.gone (talk_in past at).failed) }) (append_assoc (talk_in past at).told f.spelled g.spelled)
+              ∙ ap (λ (n : ℕ). record (talk_in past at) { told = (talk_in past at).told ++ (f.spelled ++ g.spelled); out = said_asks sent'; failed = n }) (sym (failed_twice f.gone g.gone (talk_in past at).failed)),
         )
 
 -- one after another

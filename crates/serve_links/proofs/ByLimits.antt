@@ -4,7 +4,7 @@ use Rattle.std.specs.Prelude.{slice_get}
 use Rattle.std.specs.Option.{option_map}
 use Rattle.serve_links.specs.declared.settings.LinkLimits.{LinkLimits}
 use Rattle.serve_links.specs.declared.link.Link.{Link}
-use Rattle.serve_links.specs.CoreSteps.{Obstacle, WaitedLong, StoreLate, ForeignCame, Unseen, Step, Opened, NotOpened, Fed, Polled, Stopped, Settled, Gave, Closed, LeftLine, Broke, Ticked, Loaded, Linked, Asked, Greeted, Spelled, Late, CameLate, Lost, Noted, StepsAreOf}
+use Rattle.serve_links.specs.CoreSteps.{Obstacle, WaitedLong, StoreLate, ForeignCame, LeftAlone, Unseen, Step, Opened, NotOpened, Fed, Polled, Stopped, Settled, Gave, Closed, LeftLine, Broke, Ticked, Loaded, Linked, Asked, Greeted, Spelled, Late, CameLate, Lost, Noted, StepsAreOf}
 use Rattle.serve_links.specs.Talks.{IsOfClients, IsOfServer}
 use Rattle.serve_links.specs.Story.{address_and_opened, address_and_limits, server_and_opened, servers_of, most_of, ObstacleIsByLimit, IsByLimit, KeepsServer, KeepsServers}
 use Rattle.serve_links.proofs.Talking.{clients_plain}
@@ -46,10 +46,11 @@ own_late most most' i (step ∷ steps) same own late = (by step own.0 late.0, ow
     its_limit : (of : LinkLimits → ℕ) (at limit : ℕ) → at ≡ i → option_map of (most at) ≡ Some limit → option_map of (most' at) ≡ Some limit
     its_limit of at limit its is = ap (option_map of) (ap most' its ∙ same ∙ sym (ap most its)) ∙ is
 
-    its_obstacle : (at : ℕ) (obstacle : Obstacle) → at ≡ i → ObstacleIsByLimit (option_map (λ (limits : LinkLimits). limits.call_ms) (most at)) obstacle → ObstacleIsByLimit (option_map (λ (limits : LinkLimits). limits.call_ms) (most' at)) obstacle
+    its_obstacle : (at : ℕ) (obstacle : Obstacle) → at ≡ i → ObstacleIsByLimit (most at) obstacle → ObstacleIsByLimit (most' at) obstacle
     its_obstacle at (WaitedLong number limit) its is = its_limit (λ (limits : LinkLimits). limits.call_ms) at limit its is
     its_obstacle at (StoreLate limit) its is = its_limit (λ (limits : LinkLimits). limits.call_ms) at limit its is
     its_obstacle at ForeignCame its is = tt
+    its_obstacle at (LeftAlone limit) its is = its_limit (λ (limits : LinkLimits). limits.fail_limit) at limit its is
     its_obstacle at (Unseen why) its is = tt
 
     by : (s : Step) → IsOfServer i s → IsByLimit most s → IsByLimit most' s
@@ -82,16 +83,20 @@ same_server x y text limits = ap (λ (t : List ℕ). let s : List ℕ × LinkLim
 pub same_text : (x y : Link) → address_and_limits y ≡ address_and_limits x → y.text.items ≡ x.text.items
 same_text x y same = ap (λ (s : List ℕ × LinkLimits). s.0) same
 
--- and since when it has its connection, too
-pub same_place : (x y : Link) → y.text.items ≡ x.text.items → y.limits ≡ x.limits → y.opened ≡ x.opened → server_and_opened y ≡ server_and_opened x
-same_place x y text limits opened =
-    ap (λ (s : List ℕ × LinkLimits). let p : (List ℕ × LinkLimits) × ℕ = (s, y.opened) in p) (same_server x y text limits) ∙ ap (λ (t : ℕ). let p : (List ℕ × LinkLimits) × ℕ = (address_and_limits x, t) in p) opened
+-- and since when it has its connection, and how many in a row were given up, too
+pub same_place : (x y : Link) → y.text.items ≡ x.text.items → y.limits ≡ x.limits → y.opened ≡ x.opened → y.lost ≡ x.lost → server_and_opened y ≡ server_and_opened x
+same_place x y text limits opened lost =
+    ap (λ (s : List ℕ × LinkLimits). let p : (List ℕ × LinkLimits) × ℕ × ℕ = (s, y.opened, y.lost) in p) (same_server x y text limits)
+    ∙ ap (λ (t : ℕ). let p : (List ℕ × LinkLimits) × ℕ × ℕ = (address_and_limits x, t, y.lost) in p) opened ∙ ap (λ (n : ℕ). let p : (List ℕ × LinkLimits) × ℕ × ℕ = (address_and_limits x, x.opened, n) in p) lost
 
 pub place_server : (x y : Link) → server_and_opened y ≡ server_and_opened x → address_and_limits y ≡ address_and_limits x
-place_server x y same = ap (λ (p : (List ℕ × LinkLimits) × ℕ). p.0) same
+place_server x y same = ap (λ (p : (List ℕ × LinkLimits) × ℕ × ℕ). p.0) same
 
 pub same_opening : (x y : Link) → server_and_opened y ≡ server_and_opened x → address_and_opened y ≡ address_and_opened x
-same_opening x y same = ap (λ (p : (List ℕ × LinkLimits) × ℕ). let o : List ℕ × ℕ = (p.0.0, p.1) in o) same
+same_opening x y same = ap (λ (p : (List ℕ × LinkLimits) × ℕ × ℕ). let o : List ℕ × ℕ = (p.0.0, p.1) in o) same
+
+pub same_lost : (x y : Link) → server_and_opened y ≡ server_and_opened x → y.lost ≡ x.lost
+same_lost x y same = ap (λ (p : (List ℕ × LinkLimits) × ℕ × ℕ). p.2) same
 
 -- one after another
 pub server_then : (first later : List Step) (x y z : Link) → KeepsServer first x y → KeepsServer later y z → KeepsServer (later ++ first) x z

@@ -14,7 +14,7 @@ use Rattle.core_proxy.specs.CallsStay.{CanStand, called, KeepsCalls, GivesCall, 
 use Rattle.core_proxy.proofs.CallsStay.{calls_stay}
 use Rattle.core_accepted.specs.declared.served.ServedCore.{ServedCore}
 use Rattle.core_accepted.specs.Results.{SettleStops, IsSettled}
-use Rattle.serve_links.specs.CoreSteps.{Obstacle, WaitedLong, StoreLate, ForeignCame, Unseen, Notes, Step, Opened, NotOpened, Fed, Polled, Stopped, Settled, Gave, Closed, LeftLine, Broke, Ticked, Loaded, Linked, Asked, Greeted, Spelled, Late, CameLate, Lost, Noted, Does, Walks}
+use Rattle.serve_links.specs.CoreSteps.{Obstacle, WaitedLong, StoreLate, ForeignCame, LeftAlone, Unseen, Notes, Step, Opened, NotOpened, Fed, Polled, Stopped, Settled, Gave, Closed, LeftLine, Broke, Ticked, Loaded, Linked, Asked, Greeted, Spelled, Late, CameLate, Lost, Noted, Does, Walks}
 use Rattle.serve_links.specs.Called.{call_in, TellsCallsOut, GivesOnce, GiveOnce, WalksTellCalls}
 
 law : CallsStay
@@ -100,6 +100,7 @@ keep step past new same k = record { stands = k.stands; calls = λ n call is. k.
 noted_core : (obstacle : Obstacle) (old new : ServedCore) → Notes obstacle old new → new.core ≡ old.core
 noted_core (WaitedLong number limit) old new does = ap (λ (c : ServedCore). c.core) does
 noted_core (StoreLate limit) old new does = ap (λ (c : ServedCore). c.core) does
+noted_core (LeftAlone limit) old new does = ap (λ (c : ServedCore). c.core) does
 noted_core ForeignCame old new does = ap (λ (c : ServedCore). c.core) does
 noted_core (Unseen why) old new does = does.0
 

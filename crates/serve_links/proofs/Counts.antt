@@ -24,7 +24,7 @@ use Rattle.core_accepted.specs.declared.tally.Unshown.{Unshown}
 use Rattle.core_accepted.specs.declared.tally.Unshown.TheVariants as unshown
 use Rattle.core_accepted.specs.Results.{PollStops, SettleStops, IsSettled}
 use Rattle.core_accepted.specs.Tallies.{ReplyKind, TellsError, ShowsItem, Acknowledges, TellsOther, reply_kind, one_more, more_at, with_reply, with_note, with_poll, with_call, with_bad_message, with_outcome, with_client, with_refusal, with_unshown, unshown_number, nothing_done, of_op, of_unshown, MakesPlaces}
-use Rattle.serve_links.specs.CoreSteps.{WaitedLong, StoreLate, ForeignCame, Unseen, Step, Opened, NotOpened, Fed, Polled, Stopped, Settled, Gave, Closed, LeftLine, Loaded, Spelled, Noted, Does, Walks}
+use Rattle.serve_links.specs.CoreSteps.{WaitedLong, StoreLate, ForeignCame, LeftAlone, Unseen, Step, Opened, NotOpened, Fed, Polled, Stopped, Settled, Gave, Closed, LeftLine, Loaded, Spelled, Noted, Does, Walks}
 use Rattle.serve_links.specs.Called.{TellsCallsOut}
 use Rattle.serve_links.specs.Talks.{MayComeNext, IsOrderly}
 use Rattle.serve_links.specs.Counts.{number_of, counted, same_kind, opens_one, refuses_one, refuses_message, ends_one, ends_so, calls_one, answers_one, fails_one, notes_one, count_of, AreCounted, ResultsAreCounted, NotesAreCounted, StepsAreCounted}
@@ -255,6 +255,7 @@ step_counted (Loaded configuration generation) past a b does was = loaded config
 step_counted (Spelled at number ask answer bytes) past a b does was = kept (Spelled at number ask answer bytes) past a.tally b.tally refl refl refl refl refl (λ op kind. refl) (tally_same a b does.0) was
 step_counted (Noted at (WaitedLong number limit)) past a b does was = kept (Noted at (WaitedLong number limit)) past a.tally b.tally refl refl refl refl refl (λ op kind. refl) (tally_same a b does) was
 step_counted (Noted at (StoreLate limit)) past a b does was = kept (Noted at (StoreLate limit)) past a.tally b.tally refl refl refl refl refl (λ op kind. refl) (tally_same a b does) was
+step_counted (Noted at (LeftAlone limit)) past a b does was = kept (Noted at (LeftAlone limit)) past a.tally b.tally refl refl refl refl refl (λ op kind. refl) (tally_same a b does) was
 step_counted (Noted at ForeignCame) past a b does was = kept (Noted at ForeignCame) past a.tally b.tally refl refl refl refl refl (λ op kind. refl) (tally_same a b does) was
 step_counted (Noted at (Unseen why)) past a b does was = noted at why past a.tally b.tally does.1.tally was
 step_counted step past a b does was = kept step past a.tally b.tally refl refl refl refl refl (λ op kind. refl) (tally_same a b does) was
@@ -338,6 +339,7 @@ result_counted (Loaded configuration generation) past a b tells may does was = r
 result_counted (Spelled at number ask answer bytes) past a b tells may does was = by_none (Spelled at number ask answer bytes) past a.tally b.tally refl refl (tally_same a b does.0) was
 result_counted (Noted at (WaitedLong number limit)) past a b tells may does was = by_none (Noted at (WaitedLong number limit)) past a.tally b.tally refl refl (tally_same a b does) was
 result_counted (Noted at (StoreLate limit)) past a b tells may does was = by_none (Noted at (StoreLate limit)) past a.tally b.tally refl refl (tally_same a b does) was
+result_counted (Noted at (LeftAlone limit)) past a b tells may does was = by_none (Noted at (LeftAlone limit)) past a.tally b.tally refl refl (tally_same a b does) was
 result_counted (Noted at ForeignCame) past a b tells may does was = by_none (Noted at ForeignCame) past a.tally b.tally refl refl (tally_same a b does) was
 result_counted (Noted at (Unseen why)) past a b tells may does was = by_count (Noted at (Unseen why)) past (with_unshown why) a.tally b.tally refl refl (refl, refl) does.1.tally was
 result_counted step past a b tells may does was = by_none step past a.tally b.tally refl refl (tally_same a b does) was
@@ -387,10 +389,8 @@ by_no_note step past old new none same was = record {
 }
 
 -- one more was noted
-unshown_within : (why : Unshown) → unshown_number why < 4
+unshown_within : (why : Unshown) → unshown_number why < 2
 unshown_within unshown.NoMemory = omega arith
-unshown_within unshown.Retired = omega arith
-unshown_within unshown.LeftAlone = omega arith
 unshown_within unshown.NoRoom = omega arith
 
 by_note : (at : ℕ) (why : Unshown) (past : List Step) (old new : CoreTally) → new ≡ with_unshown why old → NotesAreCounted past old → NotesAreCounted (Noted at (Unseen why) ∷ past) new
@@ -444,6 +444,7 @@ note_counted : (step : Step) (past : List Step) (a b : ServedCore) → Does step
 note_counted (Noted at (Unseen why)) past a b does was = by_note at why past a.tally b.tally does.1.tally was
 note_counted (Noted at (WaitedLong number limit)) past a b does was = by_no_note (Noted at (WaitedLong number limit)) past a.tally b.tally (λ why. refl) (by_all (tally_same a b does)) was
 note_counted (Noted at (StoreLate limit)) past a b does was = by_no_note (Noted at (StoreLate limit)) past a.tally b.tally (λ why. refl) (by_all (tally_same a b does)) was
+note_counted (Noted at (LeftAlone limit)) past a b does was = by_no_note (Noted at (LeftAlone limit)) past a.tally b.tally (λ why. refl) (by_all (tally_same a b does)) was
 note_counted (Noted at ForeignCame) past a b does was = by_no_note (Noted at ForeignCame) past a.tally b.tally (λ why. refl) (by_all (tally_same a b does)) was
 note_counted (Opened client) past a b does was = by_no_note (Opened client) past a.tally b.tally (λ why. refl) (unshown_by a.tally b.tally with_client refl does.2.tally) was
 note_counted (NotOpened fault) past a b does was = by_no_note (NotOpened fault) past a.tally b.tally (λ why. refl) (unshown_by a.tally b.tally with_refusal refl does.1.tally) was
@@ -464,8 +465,6 @@ walk_notes (step ∷ steps) past old new walks was = note_counted step (steps ++
 
 none_noted : (why : Unshown) → of_unshown nothing_done why ≡ counted 0
 none_noted unshown.NoMemory = refl
-none_noted unshown.Retired = refl
-none_noted unshown.LeftAlone = refl
 none_noted unshown.NoRoom = refl
 
 begins_notes : (tally : CoreTally) → MakesPlaces nothing_done tally → NotesAreCounted [] tally

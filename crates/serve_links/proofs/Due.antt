@@ -415,7 +415,7 @@ asked_out past at i number dialect ask since due was = elim (cases_Bool (nat_eq 
 -- each call that a server has out is out in the core, and asks there what was asked
 pub out_called : (past : List Step) (at : ℕ) → IsOrderly past → AreCalled past at (talk_in past at).out
 out_called [] at o = tt
-out_called (Linked i dialect ∷ past) at o = less_out past (Linked i dialect ∷ past) at (λ n. refl) (λ n. refl) (λ n. refl) (out_by (nat_eq i at) (talk_in past at) (first_talk dialect) (inr (inr refl))) (out_called past at o.1)
+out_called (Linked i dialect ∷ past) at o = less_out past (Linked i dialect ∷ past) at (λ n. refl) (λ n. refl) (λ n. refl) (out_by (nat_eq i at) (talk_in past at) (first_talk dialect (talk_in past at).failed) (inr (inr refl))) (out_called past at o.1)
 out_called (Asked i number dialect ask since ∷ past) at o = asked_out past at i number dialect ask since o.0.1 (out_called past at o.1)
 out_called (Greeted i dialect bytes ∷ past) at o =
     less_out past (Greeted i dialect bytes ∷ past) at (λ n. refl) (λ n. refl) (λ n. refl) (out_by (nat_eq i at) (talk_in past at) (greeted dialect bytes (talk_in past at)) (inl refl)) (out_called past at o.1)

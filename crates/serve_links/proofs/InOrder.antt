@@ -49,7 +49,7 @@ awaited e = cc
 
 linked :
     (b : Bool) (talk : Talk) (conns : List (List Ticket)) (pipe : List Ticket) (greeting : Greeting) → (b ≡ true → conns ≡ []) → Keeps talk.stands conns pipe
-    → Keeps (if b then first_talk greeting else talk).stands (if b then [] ∷ conns else conns) (if b then [] else pipe)
+    → Keeps (if b then first_talk greeting talk.failed else talk).stands (if b then [] ∷ conns else conns) (if b then [] else pipe)
 linked true talk conns pipe greeting none was = ((λ e. absurd (used e)), inr (ap (λ l. [] ∷ l) (none refl)))
 linked false talk conns pipe greeting none was = was
 

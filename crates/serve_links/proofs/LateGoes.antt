@@ -1,5 +1,5 @@
 -- Calls that are late, and their answers, as steps of a walk with which a link goes on to agree.
-use Rattle.std.proofs.Common.{◌≡◌, ℕ, ◌+◌, ◌<◌, zero, suc, length, get_or, ◌⊎◌, arith, inl, Bool, true, false, if◌then◌else◌, List, [], ◌∷◌, ◌++◌, take, drop, Option, Some, None, inr, refl, sym, ap, ◌∙◌, subst, append_assoc}
+use Rattle.std.proofs.Common.{◌≡◌, ℕ, ◌<◌, zero, suc, length, get_or, arith, inl, Bool, true, false, if◌then◌else◌, List, [], ◌∷◌, ◌++◌, take, drop, Option, Some, None, inr, refl, sym, ap, ◌∙◌, subst, append_assoc}
 use Rattle.std.proofs.lemmas.List.{take-append-drop}
 use Rattle.std.proofs.lemmas.List.Elements.{All-nil, All-cons, All-append}
 use Rattle.std.specs.Prelude.{◌&&◌, is_some, slice_index_or, Any, Result, Ok, Err}
@@ -28,12 +28,12 @@ use Rattle.serve_links.specs.Talks.{SaidAsk, Talk, HasWaited, behind, first_of_a
 use Rattle.serve_links.specs.Story.{said_asks, said_late, MayAllGo, TalkAgrees, LineAgrees, LineGoes, address_and_opened, server_and_opened, LineState, line_of}
 use Rattle.serve_links.proofs.Talking.{calls_later}
 use Rattle.serve_links.proofs.Due.{due_stays, called_stays, keeps_settled, SentGone, sent_gone, own_nowhere}
-use Rattle.serve_links.proofs.ByLimits.{place_server, same_opening}
+use Rattle.serve_links.proofs.ByLimits.{place_server, same_opening, same_lost}
 use Rattle.serve_links.proofs.Showing.{none_since, shown_later}
 use Rattle.serve_links.specs.Shut.{drain_of}
 use Rattle.serve_links.proofs.Shutting.{conn_is, conns_same, shut_still}
 use Rattle.serve_links.proofs.Answering.{spells_front}
-use Rattle.serve_links.proofs.LinkGoes.{talk_as, of_eight, has_conn, quiet, all_kept, line_keeps}
+use Rattle.serve_links.proofs.LinkGoes.{talk_as, as_tried, of_eight, has_conn, quiet, all_kept, line_keeps}
 
 -- nothing was done
 pub line_still : {Is : Step → Type 0} {at : ℕ} {core : ServedCore} {h : List WireEvent} (x : Link) → LineGoes Is at core h x core h x
@@ -220,7 +220,8 @@ turns {at} {core} {core'} {h} x y c call rest was same draining place waiting aw
         let now = talk_turns h at (address_and_opened x) (talk_in past at) c.number c.held.items (bytes_of c.unsent) (call.ticket.number, call.dialect, call.ticket.ask, call.since) (said_asks rest) (said_late x.late.items) x.awaits_dialect x.dialect before in
         has_conn at (steps ++ past) h y c (same ∙ was) (talk_as (same_opening x y place) talk refl refl refl (ap said_asks left) awaits speaks (ap said_late late ∙ one_more_late x.late.items (as_late call)) now) (a.goes_on c was)
         (calls_later steps past at y.waiting.items (subst (λ w. MayAllGo past at w) (sym waiting) a.waiting))
-        (subst (λ w. AreDue (steps ++ past) at (said_asks w)) (sym waiting) (others past a).due) (subst (λ (l : List SentCall). AreCalled (steps ++ past) at (said_asks l)) (sym left) (others past a).called)
+        (subst (λ w. AreDue (steps ++ past) at (said_asks w)) (sym waiting) (others past a).due) (subst (λ (l : List SentCall). AreCalled (steps ++ past) at (said_asks l)) (sym left) (others past a).called) (ap (λ (t : Talk). t.stands) talk ∙ a.used c was)
+        (as_tried (same_lost x y place) (ap (λ (t : Talk). t.failed) talk) a.tried)
 
 -- the same of the outcome as a link's calls have it
 pub line_turns :
@@ -300,7 +301,8 @@ line_throws {at} {core} {h} x y c d call rest answer used was is off place waiti
         has_conn at (step ∷ past) h y d is (talk_as (same_opening x y place) talk number refl unsent (ap said_asks sent) awaits speaks (ap said_late left) now) (ap (λ n. is_over n h) number ∙ a.goes_on c was)
         (calls_later (step ∷ []) past at y.waiting.items (subst (λ w. MayAllGo past at w) (sym waiting) a.waiting))
         (due_stays past (step ∷ past) at (said_asks y.waiting.items) (λ n ask is. (refl, refl, refl)) (subst (λ w. AreDue past at (said_asks w)) (sym waiting) a.due))
-        (called_stays past (step ∷ past) at (said_asks y.calls.sent.items) (λ n ask is. (refl, refl, refl)) (subst (λ (l : List SentCall). AreCalled past at (said_asks l)) (sym sent) a.called))
+        (called_stays past (step ∷ past) at (said_asks y.calls.sent.items) (λ n ask is. (refl, refl, refl)) (subst (λ (l : List SentCall). AreCalled past at (said_asks l)) (sym sent) a.called)) (ap (λ (t : Talk). t.stands) talk ∙ a.used c was)
+        (as_tried (same_lost x y place) (ap (λ (t : Talk). t.failed) talk) a.tried)
 
 -- or it isn't there
 passes_none :

@@ -1,8 +1,9 @@
 -- What is done at one link, as steps of a walk with which it goes on to agree.
-use Rattle.std.proofs.Common.{◌≡◌, ◌≢◌, ℕ, Bool, false, if◌then◌else◌, List, [], ◌∷◌, ◌++◌, Option, Some, None, ◌⊎◌, inl, inr, refl, sym, ap, ◌∙◌, subst, append_assoc, append-nil}
+use Rattle.std.proofs.Common.{◌≡◌, ◌≢◌, ℕ, suc, ◌+◌, ◌≤◌, Bool, false, if◌then◌else◌, length, arith, List, [], ◌∷◌, ◌++◌, Option, Some, None, ◌⊎◌, inl, inr, refl, sym, ap, ◌∙◌, subst, append_assoc, append-nil}
 use Rattle.std.specs.Prelude.{IfSome, MatchOption, nat_eq}
 use Rattle.std.specs.Option.{option_map}
 use Rattle.std.proofs.lemmas.Bool.{cases_Bool, eqb-true}
+use Rattle.std.proofs.lemmas.List.{length-append}
 use Rattle.mc_types.specs.declared.ask.Ask.{Ask}
 use Rattle.mc_types.specs.declared.ask.Dialect.{Dialect}
 use Rattle.wire_stream.specs.Spelling.{spelling_of}
@@ -28,7 +29,7 @@ use Rattle.serve_links.specs.Dialects.{asked_in, GreetsAwaited, awaits_flush}
 use Rattle.serve_links.specs.Lines.{first_asked_of, awaits_first, first_dialect, greeting_of, SameLine, KeepsLines, IsNewEnd, HasNewEnd, OpensLink, TakesGreeting, HasLearnt, Learns}
 use Rattle.serve_links.specs.Links.{FailsTo}
 use Rattle.serve_links.specs.Settled.{SettlesSome}
-use Rattle.serve_links.specs.Talks.{SaidAsk, Talk, Apart, InUse, Ending, standing_after, first_talk, with_ask, greeted, given_up, talk_in, IsNotedFor, IsAmong, AreDue, AreCalled, AreGivenUp, IsOrderly, IsOfServer}
+use Rattle.serve_links.specs.Talks.{SaidAsk, Talk, Apart, InUse, Ending, standing_after, first_talk, with_ask, greeted, given_up, talk_in, failed_after, IsNotedFor, IsAmong, AreDue, AreCalled, AreGivenUp, IsOrderly, IsOfServer}
 use Rattle.serve_links.specs.Called.{TellsCallsOut}
 use Rattle.serve_links.proofs.Called.{walks_tell_calls}
 use Rattle.serve_links.specs.Story.{said_asks, said_late, MayGo, MayAllGo, TalkAgrees, Unused, AllGivenUp, ConnAgrees, LineAgrees, LineLost, LineFails, LineLeaves, ShowsWhy, WasShown, StepsAreShown, LineCalled, address_and_opened, address_and_limits, server_and_opened, LineState, line_of, KeepsOthers, LeavesCalls, LineGoesFrom, LineGoes}
@@ -37,7 +38,7 @@ use Rattle.serve_links.proofs.Due.{due_stays, called_stays, leaves_twice, due_be
 use Rattle.serve_links.proofs.Walked.{walked, of_both}
 use Rattle.serve_links.proofs.ByLimits.{unlost_late, same_server, same_text, same_place, place_server, same_opening, server_then}
 use Rattle.serve_links.proofs.Showing.{plain_unlost, none_since, shown_since, shown_later}
-use Rattle.serve_links.proofs.Answering.{Answers, answers_some}
+use Rattle.serve_links.proofs.Answering.{failed_by, Answers, answers_some}
 use Rattle.serve_links.specs.Shut.{first_some, drain_of, conn_of, IsShutBut, StaysShut}
 use Rattle.serve_links.proofs.Shutting.{conn_is, conn_drains, conns_same, shut_used, shut_begun, shut_in_vain, shut_closed, shut_still, closed_shut}
 use Rattle.serve_links.proofs.Story.{line_stays}
@@ -84,16 +85,22 @@ talk_as {h} {at} {begun} {begun'} {t} {t'} {c} {c'} {held} {held'} {unsent} {uns
   late_is = ap (λ (x : Talk). x.late) t_is ∙ was.late_is ∙ sym late_same;
 }
 
+-- what is as much as it was is still no more
+pub as_tried : {l l' n n' : ℕ} → l' ≡ l → n' ≡ n → l ≤ n → l' ≤ n'
+as_tried {l} {l'} {n} {n'} less more was = subst (λ k. k ≤ n') (sym less) (subst (λ k. l ≤ k) (sym more) was)
+
 -- a link that has this connection
-pub has_conn : (at : ℕ) (past : List Step) (h : List WireEvent) (y : Link) (d : Conn) → y.conn ≡ Some d → ConnAgrees at past h y d d.held.items → is_over d.number h ≡ false → MayAllGo past at y.waiting.items → AreDue past at (said_asks y.waiting.items) → AreCalled past at (said_asks y.calls.sent.items) → LineAgrees at past h y
-has_conn at past h y d is agrees goes_on waiting due called = record { conn = λ conn there. subst (λ (z : Conn). ConnAgrees at past h y z z.held.items) (same_some (sym is ∙ there)) agrees; goes_on = λ conn there. subst (λ (z : Conn). is_over z.number h ≡ false) (same_some (sym is ∙ there)) goes_on; waiting = waiting; due = due; none_out = λ none. absurd (none_some (sym none ∙ is)); unused = λ none. absurd (none_some (sym none ∙ is)); called = called }
+pub has_conn : (at : ℕ) (past : List Step) (h : List WireEvent) (y : Link) (d : Conn) → y.conn ≡ Some d → ConnAgrees at past h y d d.held.items → is_over d.number h ≡ false → MayAllGo past at y.waiting.items → AreDue past at (said_asks y.waiting.items) → AreCalled past at (said_asks y.calls.sent.items)
+    → (talk_in past at).stands ≡ InUse → y.lost ≤ (talk_in past at).failed → LineAgrees at past h y
+has_conn at past h y d is agrees goes_on waiting due called used tried = record { conn = λ conn there. subst (λ (z : Conn). ConnAgrees at past h y z z.held.items) (same_some (sym is ∙ there)) agrees; goes_on = λ conn there. subst (λ (z : Conn). is_over z.number h ≡ false) (same_some (sym is ∙ there)) goes_on; waiting = waiting; due = due; none_out = λ none. absurd (none_some (sym none ∙ is)); unused = λ none. absurd (none_some (sym none ∙ is)); called = called; used = λ conn there. used; tried = tried }
 
 -- and one that has none
-pub has_none : (at : ℕ) (past : List Step) (h : List WireEvent) (y : Link) → y.conn ≡ None → MayAllGo past at y.waiting.items → AreDue past at (said_asks y.waiting.items) → AllGivenUp past at (said_asks y.calls.sent.items) → Unused h at y.text.items (talk_in past at) (drain_of y) → AreCalled past at (said_asks y.calls.sent.items) → LineAgrees at past h y
-has_none at past h y is waiting due out unused called = record { conn = λ conn there. absurd (none_some (sym is ∙ there)); goes_on = λ conn there. absurd (none_some (sym is ∙ there)); waiting = waiting; due = due; none_out = λ none. out; unused = λ none. unused; called = called }
+pub has_none : (at : ℕ) (past : List Step) (h : List WireEvent) (y : Link) → y.conn ≡ None → MayAllGo past at y.waiting.items → AreDue past at (said_asks y.waiting.items) → AllGivenUp past at (said_asks y.calls.sent.items) → Unused h at y.text.items (talk_in past at) (drain_of y) → AreCalled past at (said_asks y.calls.sent.items)
+    → y.lost ≤ (talk_in past at).failed → LineAgrees at past h y
+has_none at past h y is waiting due out unused called tried = record { conn = λ conn there. absurd (none_some (sym is ∙ there)); goes_on = λ conn there. absurd (none_some (sym is ∙ there)); waiting = waiting; due = due; none_out = λ none. out; unused = λ none. unused; called = called; used = λ conn there. absurd (none_some (sym is ∙ there)); tried = tried }
 
 pub as_lost : (at : ℕ) (past : List Step) (h : List WireEvent) (x : Link) → LineAgrees at past h x → LineLost at past h x
-as_lost at past h x a = record { conn = λ conn is. (conn.held.items, a.conn conn is); waiting = a.waiting; due = a.due; none_out = a.none_out; unused = a.unused; called = a.called }
+as_lost at past h x a = record { conn = λ conn is. (conn.held.items, a.conn conn is); waiting = a.waiting; due = a.due; none_out = a.none_out; unused = a.unused; called = a.called; used = a.used; tried = a.tried }
 
 -- one that agrees, whose connection shows why it is to be given up
 pub as_failing : (why : Option Cause) (at : ℕ) (past : List Step) (h : List WireEvent) (x : Link) → ((conn : Conn) → x.conn ≡ Some conn → ShowsWhy why x.limits.connect_ms (talk_in past at) conn.number h) → LineAgrees at past h x → LineFails why at past h x
@@ -156,22 +163,22 @@ line_then {P} {Q} {R} {Is} {at} {a} {b} {c} {h} {h'} {h''} {x} {y} {z} g k = rec
 
 abbrev OfConn : ℕ → List Step → List WireEvent → List ℕ × ℕ → List SaidAsk → Option Greeting → Dialect → List SaidAsk → Option ℕ → Option (ℕ × List ℕ × List ℕ) → Type 0
 OfConn at past h begun out awaits dialect late drain None = AllGivenUp past at out × Unused h at begun.0 (talk_in past at) drain
-OfConn at past h begun out awaits dialect late drain (Some e) = TalkAgrees h at begun (talk_in past at) e.0 e.1 e.2 out awaits dialect late × (is_over e.0 h ≡ false)
+OfConn at past h begun out awaits dialect late drain (Some e) = TalkAgrees h at begun (talk_in past at) e.0 e.1 e.2 out awaits dialect late × (is_over e.0 h ≡ false) × ((talk_in past at).stands ≡ InUse)
 
 abbrev OfLine : ℕ → List Step → List WireEvent → LineState → Type 0
-OfLine at past h s = OfConn at past h (s.0.0.0, s.0.1) s.2 s.4 s.5 s.6 s.7 s.1 × MayAllGo past at s.3 × AreDue past at (said_asks s.3) × AreCalled past at s.2
+OfLine at past h s = OfConn at past h (s.0.0.0, s.0.1) s.2 s.4 s.5 s.6 s.7 s.1 × MayAllGo past at s.3 × AreDue past at (said_asks s.3) × AreCalled past at s.2 × (s.0.2 ≤ (talk_in past at).failed)
 
 to_line : (at : ℕ) (past : List Step) (h : List WireEvent) (x : Link) → LineAgrees at past h x → OfLine at past h (line_of x)
-to_line at past h x a = (by x.conn refl, a.waiting, a.due, a.called)
+to_line at past h x a = (by x.conn refl, a.waiting, a.due, a.called, a.tried)
   where
     by : (o : Option Conn) → x.conn ≡ o → OfConn at past h (address_and_opened x) (said_asks x.calls.sent.items) x.awaits_dialect x.dialect (said_late x.late.items) (drain_of x) (option_map (λ (c : Conn). (c.number, c.held.items, bytes_of c.unsent)) o)
     by None e = (a.none_out e, a.unused e)
-    by (Some c) e = (a.conn c e, a.goes_on c e)
+    by (Some c) e = (a.conn c e, a.goes_on c e, a.used c e)
 
 from_line : (at : ℕ) (past : List Step) (h : List WireEvent) (y : Link) → OfLine at past h (line_of y) → LineAgrees at past h y
-from_line at past h y o = record { conn = λ conn is. (there conn is).0; goes_on = λ conn is. (there conn is).1; waiting = o.1; due = o.2; none_out = λ none. (there_none none).0; unused = λ none. (there_none none).1; called = o.3 }
+from_line at past h y o = record { conn = λ conn is. (there conn is).0; goes_on = λ conn is. (there conn is).1; waiting = o.1; due = o.2; none_out = λ none. (there_none none).0; unused = λ none. (there_none none).1; called = o.3; used = λ conn is. (there conn is).2; tried = o.4 }
   where
-    there : (conn : Conn) → y.conn ≡ Some conn → ConnAgrees at past h y conn conn.held.items × (is_over conn.number h ≡ false)
+    there : (conn : Conn) → y.conn ≡ Some conn → ConnAgrees at past h y conn conn.held.items × (is_over conn.number h ≡ false) × ((talk_in past at).stands ≡ InUse)
     there conn is = subst (λ (q : Option Conn). OfConn at past h (address_and_opened y) (said_asks y.calls.sent.items) y.awaits_dialect y.dialect (said_late y.late.items) (drain_of y) (option_map (λ (c : Conn). (c.number, c.held.items, bytes_of c.unsent)) q)) is o.0
 
     there_none : y.conn ≡ None → AllGivenUp past at (said_asks y.calls.sent.items) × Unused h at y.text.items (talk_in past at) (drain_of y)
@@ -196,6 +203,19 @@ line_keeps {at = at} {h = h} {h' = h'} {x = x} {y = y} still same =
     line_moves refl (still 0).after (shut_still still (same_conn x y same)) (ap (λ (s : LineState). s.0.0) same)
     (λ past a. (same_line at past h' x y same (line_stays h h' at [] past x (λ c of_c. still c) refl (λ n ask is. (refl, refl, refl)) a), all_kept (1, at) h h' still))
 
+-- or it counts fewer connections in a row that were given up
+pub line_lowers : {Is : Step → Type 0} {at : ℕ} {core : ServedCore} {h : List WireEvent} (x y : Link) → y.lost ≤ x.lost → line_of y ≡ line_of (record x { lost = y.lost }) → LineGoes Is at core h x core h y
+line_lowers {at = at} {h = h} x y less same =
+    line_moves refl (none_since h) (shut_still (quiet h) (same_conn (record x { lost = y.lost }) y same)) (ap (λ (s : LineState). s.0.0) same) (λ past a. (same_line at past h (record x { lost = y.lost }) y same (lowered past a), all_kept (1, at) h h (quiet h)))
+  where
+    lowered : (past : List Step) → LineAgrees at past h x → LineAgrees at past h (record x { lost = y.lost })
+    lowered past a =
+        let tried : x.lost ≤ (talk_in past at).failed = a.tried in
+        record { conn = a.conn; goes_on = a.goes_on; waiting = a.waiting; due = a.due; none_out = a.none_out; unused = a.unused; called = a.called; used = a.used; tried = omega (arith, less, tried) }
+
+pub line_forgets : {Is : Step → Type 0} {at : ℕ} {core : ServedCore} {h : List WireEvent} (x y : Link) → y.lost ≡ 0 → line_of y ≡ line_of (record x { lost = 0 }) → LineGoes Is at core h x core h y
+line_forgets x y none same = line_lowers x y (as_tried none refl (omega arith)) (same ∙ ap (λ n. line_of (record x { lost = n })) (sym none))
+
 -- of eight parts
 pub of_eight :
     {A B C D E F G H : Type 0} {a a' : A} {b b' : B} {c c' : C} {d d' : D} {e e' : E} {f f' : F} {g g' : G} {h h' : H} → a' ≡ a → b' ≡ b → c' ≡ c → d' ≡ d → e' ≡ e → f' ≡ f → g' ≡ g → h' ≡ h
@@ -207,7 +227,7 @@ of_eight {a = a} {a' = a'} {b = b} {b' = b'} {c = c} {c' = c'} {d = d} {d' = d'}
 -- what a link's own functions leave as it was
 pub keeps_line : (x y : Link) → KeepsLines x y → line_of y ≡ line_of x
 keeps_line x y k =
-    of_eight (same_place x y (ap (λ t. t.items) k.text) k.limits k.opened) (conns x.conn y.conn k.conn) (ap (λ c. said_asks c.sent.items) k.calls) (ap (λ w. w.items) k.waiting) k.awaits k.dialect (ap (λ w. said_late w.items) k.late) k.draining
+    of_eight (same_place x y (ap (λ t. t.items) k.text) k.limits k.opened k.lost) (conns x.conn y.conn k.conn) (ap (λ c. said_asks c.sent.items) k.calls) (ap (λ w. w.items) k.waiting) k.awaits k.dialect (ap (λ w. said_late w.items) k.late) k.draining
   where
     ends : (c d : Conn) → d.number ≡ c.number → d.held.items ≡ c.held.items → bytes_of d.unsent ≡ bytes_of c.unsent → ◌≡◌ {A = ℕ × List ℕ × List ℕ} (d.number, d.held.items, bytes_of d.unsent) (c.number, c.held.items, bytes_of c.unsent)
     ends c d n l u =
@@ -240,9 +260,9 @@ talk_reads h h' at begun t c held held' unsent out awaits dialect r was = record
 -- what agrees but for its connection is over, and shows why
 pub over_so :
     (why : Option Cause) (at : ℕ) (past : List Step) (h : List WireEvent) (y : Link) (d : Conn) → y.conn ≡ Some d → ConnAgrees at past h y d d.held.items → ShowsWhy why y.limits.connect_ms (talk_in past at) d.number h → MayAllGo past at y.waiting.items
-    → AreDue past at (said_asks y.waiting.items) → AreCalled past at (said_asks y.calls.sent.items) → LineFails why at past h y
-over_so why at past h y d is agrees shows waiting due called = record {
-  lost = record { conn = λ conn there. (conn.held.items, subst (λ (z : Conn). ConnAgrees at past h y z z.held.items) (same_some (sym is ∙ there)) agrees); waiting = waiting; due = due; none_out = λ none. absurd (none_some (sym none ∙ is)); unused = λ none. absurd (none_some (sym none ∙ is)); called = called };
+    → AreDue past at (said_asks y.waiting.items) → AreCalled past at (said_asks y.calls.sent.items) → (talk_in past at).stands ≡ InUse → y.lost ≤ (talk_in past at).failed → LineFails why at past h y
+over_so why at past h y d is agrees shows waiting due called used tried = record {
+  lost = record { conn = λ conn there. (conn.held.items, subst (λ (z : Conn). ConnAgrees at past h y z z.held.items) (same_some (sym is ∙ there)) agrees); waiting = waiting; due = due; none_out = λ none. absurd (none_some (sym none ∙ is)); unused = λ none. absurd (none_some (sym none ∙ is)); called = called; used = λ conn there. used; tried = tried };
   shows = λ conn there. subst (λ (z : Conn). ShowsWhy why y.limits.connect_ms (talk_in past at) z.number h) (same_some (sym is ∙ there)) shows;
 }
 
@@ -250,7 +270,7 @@ over_so why at past h y d is agrees shows waiting due called = record {
 line_reads_to :
     {After : ℕ → List Step → List WireEvent → Link → Type 0} {Is : Step → Type 0} {at : ℕ} {core : ServedCore} {h h' : List WireEvent} (x y : Link) (c d : Conn) → x.conn ≡ Some c → y ≡ record x { conn = Some d } → d.number ≡ c.number
     → bytes_of d.unsent ≡ bytes_of c.unsent → ReadsOn c.number c.held.items d.held.items h h'
-    → ((past : List Step) → LineAgrees at past h x → ConnAgrees at past h' y d d.held.items → MayAllGo past at y.waiting.items → AreDue past at (said_asks y.waiting.items) → AreCalled past at (said_asks y.calls.sent.items) → After at past h' y)
+    → ((past : List Step) → LineAgrees at past h x → ConnAgrees at past h' y d d.held.items → MayAllGo past at y.waiting.items → AreDue past at (said_asks y.waiting.items) → AreCalled past at (said_asks y.calls.sent.items) → (talk_in past at).stands ≡ InUse → y.lost ≤ (talk_in past at).failed → After at past h' y)
     → LineGoesFrom LineAgrees After Is at core h x core h' y
 line_reads_to {After} {at = at} {h = h} {h' = h'} x y c d was is number unsent r after =
     line_moves refl (only_after c.number h h' r.elsewhere) (shut_used c.number r.elsewhere (conn_is x c was) (ap conn_of is ∙ ap (λ n. Some n) number)) (ap address_and_limits is) (λ past a. (agrees past a, keeps_others c.number (1, at) h h' (a.conn c was).is_to r.same_role r.elsewhere))
@@ -261,6 +281,7 @@ line_reads_to {After} {at = at} {h = h} {h' = h'} x y c d was is number unsent r
         let conn = talk_as (ap address_and_opened is) refl number refl unsent (ap (λ (z : Link). said_asks z.calls.sent.items) is) (ap (λ (z : Link). z.awaits_dialect) is) (ap (λ (z : Link). z.dialect) is) (ap (λ (z : Link). said_late z.late.items) is) now in
         let waits = sym (ap (λ (z : Link). z.waiting.items) is) in
         after past a conn (subst (λ w. MayAllGo past at w) waits a.waiting) (subst (λ w. AreDue past at (said_asks w)) waits a.due) (subst (λ l. AreCalled past at l) (sym (ap (λ (z : Link). said_asks z.calls.sent.items) is)) a.called)
+        (a.used c was) (as_tried (ap (λ (z : Link). z.lost) is) refl a.tried)
 
 -- where the connection stands still
 pub line_reads :
@@ -268,7 +289,7 @@ pub line_reads :
     → ReadsOn c.number c.held.items d.held.items h h' → Stands c.number h h' → LineGoes Is at core h x core h' y
 line_reads {at = at} {h' = h'} x y c d was is number unsent r stands =
     line_reads_to x y c d was is number unsent r
-    (λ past a agrees waiting due called. has_conn at past h' y d (ap (λ (z : Link). z.conn) is) agrees (ap (λ n. is_over n h') number ∙ stands ∙ a.goes_on c was) waiting due called)
+    (λ past a agrees waiting due called used tried. has_conn at past h' y d (ap (λ (z : Link). z.conn) is) agrees (ap (λ n. is_over n h') number ∙ stands ∙ a.goes_on c was) waiting due called used tried)
 
 -- or shows why it is to be given up
 pub line_reads_over :
@@ -276,7 +297,7 @@ pub line_reads_over :
     → bytes_of d.unsent ≡ bytes_of c.unsent → ReadsOn c.number c.held.items d.held.items h h' → ((limit : ℕ) (t : Talk) → ShowsWhy why limit t c.number h') → LineGoesFrom LineAgrees (LineFails why) Is at core h x core h' y
 line_reads_over {at = at} {h' = h'} why x y c d was is number unsent r shows =
     line_reads_to x y c d was is number unsent r
-    (λ past a agrees waiting due called. over_so why at past h' y d (ap (λ (z : Link). z.conn) is) agrees (subst (λ n. ShowsWhy why y.limits.connect_ms (talk_in past at) n h') (sym number) (shows y.limits.connect_ms (talk_in past at))) waiting due called)
+    (λ past a agrees waiting due called used tried. over_so why at past h' y d (ap (λ (z : Link). z.conn) is) agrees (subst (λ n. ShowsWhy why y.limits.connect_ms (talk_in past at) n h') (sym number) (shows y.limits.connect_ms (talk_in past at))) waiting due called used tried)
 
 talk_sends :
     (h h' : List WireEvent) (at : ℕ) (begun : List ℕ × ℕ) (t : Talk) (c : ℕ) (held unsent unsent' : List ℕ) (out : List SaidAsk) (awaits : Option Greeting) (dialect : Dialect) {late : List SaidAsk} → SendsOn c unsent unsent' h h' → TalkAgrees h at begun t c held unsent out awaits dialect late
@@ -296,7 +317,7 @@ talk_sends h h' at begun t c held unsent unsent' out awaits dialect s was = reco
 line_sends_to :
     {After : ℕ → List Step → List WireEvent → Link → Type 0} {Is : Step → Type 0} {at : ℕ} {core : ServedCore} {h h' : List WireEvent} (x y : Link) (c d : Conn) → x.conn ≡ Some c → y ≡ record x { conn = Some d } → d.number ≡ c.number
     → d.held.items ≡ c.held.items → SendsOn c.number (bytes_of c.unsent) (bytes_of d.unsent) h h'
-    → ((past : List Step) → LineAgrees at past h x → ConnAgrees at past h' y d d.held.items → MayAllGo past at y.waiting.items → AreDue past at (said_asks y.waiting.items) → AreCalled past at (said_asks y.calls.sent.items) → After at past h' y)
+    → ((past : List Step) → LineAgrees at past h x → ConnAgrees at past h' y d d.held.items → MayAllGo past at y.waiting.items → AreDue past at (said_asks y.waiting.items) → AreCalled past at (said_asks y.calls.sent.items) → (talk_in past at).stands ≡ InUse → y.lost ≤ (talk_in past at).failed → After at past h' y)
     → LineGoesFrom LineAgrees After Is at core h x core h' y
 line_sends_to {After} {at = at} {h = h} {h' = h'} x y c d was is number held s after =
     line_moves refl (only_after c.number h h' s.elsewhere) (shut_used c.number s.elsewhere (conn_is x c was) (ap conn_of is ∙ ap (λ n. Some n) number)) (ap address_and_limits is) (λ past a. (agrees past a, keeps_others c.number (1, at) h h' (a.conn c was).is_to s.same_role s.elsewhere))
@@ -307,6 +328,7 @@ line_sends_to {After} {at = at} {h = h} {h' = h'} x y c d was is number held s a
         let conn = talk_as (ap address_and_opened is) refl number held refl (ap (λ (z : Link). said_asks z.calls.sent.items) is) (ap (λ (z : Link). z.awaits_dialect) is) (ap (λ (z : Link). z.dialect) is) (ap (λ (z : Link). said_late z.late.items) is) now in
         let waits = sym (ap (λ (z : Link). z.waiting.items) is) in
         after past a conn (subst (λ w. MayAllGo past at w) waits a.waiting) (subst (λ w. AreDue past at (said_asks w)) waits a.due) (subst (λ l. AreCalled past at l) (sym (ap (λ (z : Link). said_asks z.calls.sent.items) is)) a.called)
+        (a.used c was) (as_tried (ap (λ (z : Link). z.lost) is) refl a.tried)
 
 -- where the connection stands still
 pub line_sends :
@@ -314,7 +336,7 @@ pub line_sends :
     → SendsOn c.number (bytes_of c.unsent) (bytes_of d.unsent) h h' → Stands c.number h h' → LineGoes Is at core h x core h' y
 line_sends {at = at} {h' = h'} x y c d was is number held s stands =
     line_sends_to x y c d was is number held s
-    (λ past a agrees waiting due called. has_conn at past h' y d (ap (λ (z : Link). z.conn) is) agrees (ap (λ n. is_over n h') number ∙ stands ∙ a.goes_on c was) waiting due called)
+    (λ past a agrees waiting due called used tried. has_conn at past h' y d (ap (λ (z : Link). z.conn) is) agrees (ap (λ n. is_over n h') number ∙ stands ∙ a.goes_on c was) waiting due called used tried)
 
 -- or shows why it is to be given up
 pub line_sends_over :
@@ -322,14 +344,14 @@ pub line_sends_over :
     → SendsOn c.number (bytes_of c.unsent) (bytes_of d.unsent) h h' → ((limit : ℕ) (t : Talk) → ShowsWhy why limit t c.number h') → LineGoesFrom LineAgrees (LineFails why) Is at core h x core h' y
 line_sends_over {at = at} {h' = h'} why x y c d was is number held s shows =
     line_sends_to x y c d was is number held s
-    (λ past a agrees waiting due called. over_so why at past h' y d (ap (λ (z : Link). z.conn) is) agrees (subst (λ n. ShowsWhy why y.limits.connect_ms (talk_in past at) n h') (sym number) (shows y.limits.connect_ms (talk_in past at))) waiting due called)
+    (λ past a agrees waiting due called used tried. over_so why at past h' y d (ap (λ (z : Link). z.conn) is) agrees (subst (λ n. ShowsWhy why y.limits.connect_ms (talk_in past at) n h') (sym number) (shows y.limits.connect_ms (talk_in past at))) waiting due called used tried)
 
 -- ---- a new connection
 
 first_agrees :
-    (h : List WireEvent) (at number : ℕ) (text : List ℕ) (dialect : Greeting) → IsUntold number h
-    → TalkAgrees (connects number at text ∷ h) at (text, time h) (first_talk dialect) number [] (first_asked_of dialect) [] (awaits_first dialect) (first_dialect dialect.dialect) []
-first_agrees h at number text dialect new = record {
+    (h : List WireEvent) (at number : ℕ) (text : List ℕ) (dialect : Greeting) (failed : ℕ) → IsUntold number h
+    → TalkAgrees (connects number at text ∷ h) at (text, time h) (first_talk dialect failed) number [] (first_asked_of dialect) [] (awaits_first dialect) (first_dialect dialect.dialect) []
+first_agrees h at number text dialect failed new = record {
   is_to = ap (λ b. if b then Some (1, at) else role number h) (equal number);
   begun_is = begin_begins h text at number;
   sent_is = ap (λ l. l ++ first_asked_of dialect) (sym new.none_went);
@@ -375,14 +397,14 @@ begins at core h h' x y dialect number new noted has = record {
     by : (past : List Step) → LineAgrees at past h x → (o : Option Conn) → y.conn ≡ o → IsNewEnd number dialect o → LineAgrees at (Linked at dialect ∷ past) h' y
     by past a None e end = absurd end
     by past a (Some d) e end =
-        let talk = ap (λ b. if b then first_talk dialect else talk_in past at) (equal at) in
+        let talk = ap (λ b. if b then first_talk dialect (talk_in past at).failed else talk_in past at) (equal at) in
         let none : said_asks y.calls.sent.items ≡ [] = ap (λ c. said_asks c.sent.items) has.calls ∙ ap said_asks has.none_out in
-        let first = subst (λ k. TalkAgrees k at (x.text.items, time h) (first_talk dialect) number [] (first_asked_of dialect) [] (awaits_first dialect) (first_dialect dialect.dialect) []) (sym noted) (first_agrees h at number x.text.items dialect new) in
+        let first = subst (λ k. TalkAgrees k at (x.text.items, time h) (first_talk dialect (talk_in past at).failed) number [] (first_asked_of dialect) [] (awaits_first dialect) (first_dialect dialect.dialect) []) (sym noted) (first_agrees h at number x.text.items dialect (talk_in past at).failed new) in
         has_conn at (Linked at dialect ∷ past) h' y d e (talk_as begun talk end.0 end.1 end.2 none has.awaits has.speaks (ap said_late has.none_late) first)
         (ap (λ n. is_over n h') end.0 ∙ ap (is_over number) noted ∙ new.goes_on)
         (calls_later (Linked at dialect ∷ []) past at y.waiting.items (subst (λ w. MayAllGo past at w) (sym (ap (λ w. w.items) has.waiting)) a.waiting))
         (due_stays past (Linked at dialect ∷ past) at (said_asks y.waiting.items) (λ n ask is. (refl, refl, refl)) (subst (λ w. AreDue past at (said_asks w)) (sym (ap (λ w. w.items) has.waiting)) a.due))
-        (subst (λ l. AreCalled (Linked at dialect ∷ past) at l) (sym none) tt)
+        (subst (λ l. AreCalled (Linked at dialect ∷ past) at l) (sym none) tt) (ap (λ (t : Talk). t.stands) talk) (as_tried has.lost (ap (λ (t : Talk). t.failed) talk) a.tried)
 
 -- one was begun, and closed
 begins_in_vain :
@@ -452,6 +474,7 @@ line_learns {at} {core} {h} x y can l = by l.told
             (calls_later (step ∷ []) past at y.waiting.items (subst (λ w. MayAllGo past at w) (sym (ap (λ (z : Link). z.waiting.items) learnt.rest)) a.waiting))
             (due_stays past (step ∷ past) at (said_asks y.waiting.items) (λ n ask is. (refl, refl, refl)) (subst (λ w. AreDue past at (said_asks w)) (sym (ap (λ (z : Link). z.waiting.items) learnt.rest)) a.due))
             (called_stays past (step ∷ past) at (said_asks y.calls.sent.items) (λ n ask is. (refl, refl, refl)) (subst (λ l. AreCalled past at l) (sym (ap (λ (z : Link). said_asks z.calls.sent.items) learnt.rest)) a.called))
+            (ap (λ (t : Talk). t.stands) talk ∙ a.used c was) (as_tried (ap (λ (z : Link). z.lost) learnt.rest) (ap (λ (t : Talk). t.failed) talk) a.tried)
 
     by_conns : (o p : Option Conn) → x.conn ≡ o → y.conn ≡ p → TakesGreeting x.awaits_dialect y.dialect o p → HasLearnt x y → LineGoes IsOfTurn at core h x core h y
     by_conns None p was is takes learnt = absurd takes
@@ -495,7 +518,7 @@ line_asks {at} {core} {h} x y c d call was is same alone ready more unsent = rec
   walks = (core, refl, refl);
   agrees = λ past o tells a.
       let one = asked_one at past x.calls.sent.items call x.waiting.items a.0.called a.2 in
-      (((a.1, a.2.0, (a.0.conn c was).late_is ∙ ap said_late alone, ap awaits_flush (a.0.conn c was).awaits_is ∙ ready, a.2.3), o), agreed past a.0 one, all_kept (1, at) h h (quiet h), one.others);
+      (((a.1, a.2.0, (a.0.conn c was).late_is ∙ ap said_late alone, ap awaits_flush (a.0.conn c was).awaits_is ∙ ready, a.2.3, a.0.used c was), o), agreed past a.0 one, all_kept (1, at) h h (quiet h), one.others);
   shown = λ past o tells a shown. shown_later (step ∷ []) past h h (tt, tt) (none_since h) shown;
   shut = shut_still (quiet h) (ap conn_of is ∙ ap (λ (z : Conn). Some z.number) same ∙ sym (conn_is x c was));
   server = record { same = ap address_and_limits is; late = (tt, tt) };
@@ -513,7 +536,7 @@ line_asks {at} {core} {h} x y c d call was is same alone ready more unsent = rec
         (ap (λ (z : Conn). is_over z.number h) same ∙ a.goes_on c was)
         (calls_later (step ∷ []) past at y.waiting.items (subst (λ w. MayAllGo past at w) (sym (ap (λ (z : Link). z.waiting.items) is)) a.waiting))
         (subst (λ w. AreDue (step ∷ past) at (said_asks w)) (sym (ap (λ (z : Link). z.waiting.items) is)) one.due)
-        (subst (λ (l : List SentCall). AreCalled (step ∷ past) at (said_asks l)) (sym more) one.called)
+        (subst (λ (l : List SentCall). AreCalled (step ∷ past) at (said_asks l)) (sym more) one.called) (ap (λ (t : Talk). t.stands) talk ∙ a.used c was) (as_tried (ap (λ (z : Link). z.lost) is) (ap (λ (t : Talk). t.failed) talk) a.tried)
 
 -- a link that has another list of calls that wait
 waits_with : (at : ℕ) (past : List Step) (h : List WireEvent) (x y : Link) → y ≡ record x { waiting = y.waiting } → LineAgrees at past h x → MayAllGo past at y.waiting.items → AreDue past at (said_asks y.waiting.items) → LineAgrees at past h y
@@ -527,6 +550,8 @@ waits_with at past h x y is a waiting due = record {
   none_out = λ none. subst (λ l. AllGivenUp past at l) (sym (ap (λ (z : Link). said_asks z.calls.sent.items) is)) (a.none_out (sym (ap (λ (z : Link). z.conn) is) ∙ none));
   unused = λ none. subst (λ (z : Link). Unused h at z.text.items (talk_in past at) (drain_of z)) (sym is) (a.unused (sym (ap (λ (z : Link). z.conn) is) ∙ none));
   called = subst (λ l. AreCalled past at l) (sym (ap (λ (z : Link). said_asks z.calls.sent.items) is)) a.called;
+  used = λ conn there. a.used conn (sym (ap (λ (z : Link). z.conn) is) ∙ there);
+  tried = as_tried (ap (λ (z : Link). z.lost) is) refl a.tried;
 }
 
 -- it waits
@@ -564,9 +589,9 @@ line_takes {at = at} {h = h} x y call before after is was now =
 -- ---- answers
 
 talk_answers :
-    (h : List WireEvent) (at : ℕ) (begun : List ℕ × ℕ) (t : Talk) (c : ℕ) (spelled held unsent : List ℕ) (out out' : List SaidAsk) (awaits : Option Greeting) (dialect : Dialect) {late : List SaidAsk} → TalkAgrees h at begun t c (spelled ++ held) unsent out awaits dialect late
-    → TalkAgrees h at begun (record t { told = t.told ++ spelled; out = out' }) c held unsent out' awaits dialect late
-talk_answers h at begun t c spelled held unsent out out' awaits dialect was = record {
+    (h : List WireEvent) (at : ℕ) (begun : List ℕ × ℕ) (t : Talk) (c : ℕ) (spelled held unsent : List ℕ) (out out' : List SaidAsk) (failed : ℕ) (awaits : Option Greeting) (dialect : Dialect) {late : List SaidAsk} → TalkAgrees h at begun t c (spelled ++ held) unsent out awaits dialect late
+    → TalkAgrees h at begun (record t { told = t.told ++ spelled; out = out'; failed = failed }) c held unsent out' awaits dialect late
+talk_answers h at begun t c spelled held unsent out out' failed awaits dialect was = record {
   is_to = was.is_to;
   begun_is = was.begun_is;
   sent_is = was.sent_is;
@@ -577,13 +602,29 @@ talk_answers h at begun t c spelled held unsent out out' awaits dialect was = re
   late_is = was.late_is;
 }
 
+-- a link counts no connection that was given up any more, or no call of it was settled and it counts what it did
+abbrev pub StillLost : Link → Link → Type 0
+StillLost x y = (y.lost ≡ 0) ⊎ ((y.lost ≡ x.lost) × (length x.calls.sent.items ≤ length y.calls.sent.items))
+
+-- where these calls were answered first, and others are left, a link that counts so counts no more than there are
+settled_tried : (gone sent left : List SentCall) (old new failed : ℕ) → sent ≡ gone ++ left → (new ≡ 0) ⊎ ((new ≡ old) × (length sent ≤ length left)) → old ≤ failed → new ≤ failed_by gone failed
+settled_tried gone sent left old new failed parts (inl none) was = subst (λ n. n ≤ failed_by gone failed) (sym none) (least (failed_by gone failed))
+  where
+    least : (n : ℕ) → 0 ≤ n
+    least n = omega arith
+settled_tried [] sent left old new failed parts (inr still) was = subst (λ n. n ≤ failed) (sym still.0) was
+settled_tried (call ∷ gone) sent left old new failed parts (inr still) was = absurd (more (subst (λ l. length l ≤ length left) parts still.1))
+  where
+    more : length (call ∷ gone ++ left) ≤ length left → ⊥
+    more less = let both : length (gone ++ left) ≡ length gone + length left = length-append gone left in omega (arith, less, both)
+
 -- the answers in front of what is held settle calls, and this is left of it
 settles_to :
     {After : ℕ → List Step → List WireEvent → Link → Type 0} {at : ℕ} {core core' : ServedCore} {h : List WireEvent} (x y : Link) (c d : Conn) (rest : List ℕ) → x.conn ≡ Some c → y.conn ≡ Some d → x.awaits_dialect ≡ None → x.late.items ≡ []
-    → server_and_opened y ≡ server_and_opened x → y.waiting.items ≡ x.waiting.items → y.awaits_dialect ≡ x.awaits_dialect → y.dialect ≡ x.dialect → y.late.items ≡ x.late.items → d.number ≡ c.number → bytes_of d.unsent ≡ bytes_of c.unsent
-    → ((past : List Step) → ConnAgrees at past h y d rest → is_over d.number h ≡ false → MayAllGo past at y.waiting.items → AreDue past at (said_asks y.waiting.items) → AreCalled past at (said_asks y.calls.sent.items) → After at past h y)
+    → server_and_opened y ≡ server_and_opened (record x { lost = y.lost }) → StillLost x y → y.waiting.items ≡ x.waiting.items → y.awaits_dialect ≡ x.awaits_dialect → y.dialect ≡ x.dialect → y.late.items ≡ x.late.items → d.number ≡ c.number → bytes_of d.unsent ≡ bytes_of c.unsent
+    → ((past : List Step) → ConnAgrees at past h y d rest → is_over d.number h ≡ false → MayAllGo past at y.waiting.items → AreDue past at (said_asks y.waiting.items) → AreCalled past at (said_asks y.calls.sent.items) → (talk_in past at).stands ≡ InUse → y.lost ≤ (talk_in past at).failed → After at past h y)
     → SettlesSome x.calls.sent.items c.held.items core y.calls.sent.items rest core' → LineGoesFrom LineAgrees After IsOfTurn at core h x core' h y
-settles_to {After} {at} {core} {core'} {h} x y c d rest was is off alone place waiting awaits speaks late number unsent after s = record {
+settles_to {After} {at} {core} {core'} {h} x y c d rest was is off alone place still waiting awaits speaks late number unsent after s = record {
   steps = g.steps;
   kinds = g.kinds;
   own = g.own;
@@ -591,7 +632,7 @@ settles_to {After} {at} {core} {core'} {h} x y c d rest was is off alone place w
   agrees = λ past o tells a. let t = a.conn c was in let r = g.orderly past o tells a.called t.out_is (t.awaits_is ∙ off) (t.late_is ∙ ap said_late alone) in (r.0, agreed past a r.1, all_kept (1, at) h h (quiet h), (left past a).others);
   shown = λ past o tells a shown. shown_later g.steps past h h g.unlost (none_since h) shown;
   shut = shut_still (quiet h) (conn_is y d is ∙ ap (λ n. Some n) number ∙ sym (conn_is x c was));
-  server = record { same = place_server x y place; late = unlost_late (λ i. Some x.limits) g.steps g.unlost };
+  server = record { same = place_server (record x { lost = y.lost }) y place; late = unlost_late (λ i. Some x.limits) g.steps g.unlost };
 }
   where
     g : Answers at x.calls.sent.items c.held.items core y.calls.sent.items rest core'
@@ -600,37 +641,38 @@ settles_to {After} {at} {core} {core'} {h} x y c d rest was is off alone place w
     left : (past : List Step) → LineAgrees at past h x → SentGone at past (g.steps ++ past) y.calls.sent.items x.waiting.items
     left past a = sent_gone at past (g.steps ++ past) g.gone y.calls.sent.items x.waiting.items (g.keeps past) (subst (λ (l : List SentCall). AreCalled past at (said_asks l)) g.parts a.called) a.due
 
-    agreed : (past : List Step) → LineAgrees at past h x → talk_in (g.steps ++ past) at ≡ record (talk_in past at) { told = (talk_in past at).told ++ g.spelled; out = said_asks y.calls.sent.items } → After at (g.steps ++ past) h y
+    agreed : (past : List Step) → LineAgrees at past h x → talk_in (g.steps ++ past) at ≡ record (talk_in past at) { told = (talk_in past at).told ++ g.spelled; out = said_asks y.calls.sent.items; failed = failed_by g.gone (talk_in past at).failed } → After at (g.steps ++ past) h y
     agreed past a talk =
         let before = talk_as refl refl refl (sym g.whole) refl refl refl refl refl (a.conn c was) in
-        let now = talk_answers h at (address_and_opened x) (talk_in past at) c.number g.spelled rest (bytes_of c.unsent) (said_asks x.calls.sent.items) (said_asks y.calls.sent.items) x.awaits_dialect x.dialect before in
-        after (g.steps ++ past) (talk_as (same_opening x y place) talk number refl unsent refl awaits speaks (ap said_late late) now) (ap (λ n. is_over n h) number ∙ a.goes_on c was) (calls_later g.steps past at y.waiting.items (subst (λ w. MayAllGo past at w) (sym waiting) a.waiting))
-        (subst (λ w. AreDue (g.steps ++ past) at (said_asks w)) (sym waiting) (left past a).due) (left past a).called
+        let now = talk_answers h at (address_and_opened x) (talk_in past at) c.number g.spelled rest (bytes_of c.unsent) (said_asks x.calls.sent.items) (said_asks y.calls.sent.items) (failed_by g.gone (talk_in past at).failed) x.awaits_dialect x.dialect before in
+        after (g.steps ++ past) (talk_as (same_opening (record x { lost = y.lost }) y place) talk number refl unsent refl awaits speaks (ap said_late late) now) (ap (λ n. is_over n h) number ∙ a.goes_on c was) (calls_later g.steps past at y.waiting.items (subst (λ w. MayAllGo past at w) (sym waiting) a.waiting))
+        (subst (λ w. AreDue (g.steps ++ past) at (said_asks w)) (sym waiting) (left past a).due) (left past a).called (ap (λ (t : Talk). t.stands) talk ∙ a.used c was)
+        (as_tried refl (ap (λ (t : Talk). t.failed) talk) (settled_tried g.gone x.calls.sent.items y.calls.sent.items x.lost y.lost (talk_in past at).failed g.parts still a.tried))
 
 -- what is left of it is held
 pub line_settles :
-    {at : ℕ} {core core' : ServedCore} {h : List WireEvent} (x y : Link) (c d : Conn) → x.conn ≡ Some c → y.conn ≡ Some d → x.awaits_dialect ≡ None → x.late.items ≡ [] → server_and_opened y ≡ server_and_opened x → y.waiting.items ≡ x.waiting.items
+    {at : ℕ} {core core' : ServedCore} {h : List WireEvent} (x y : Link) (c d : Conn) → x.conn ≡ Some c → y.conn ≡ Some d → x.awaits_dialect ≡ None → x.late.items ≡ [] → server_and_opened y ≡ server_and_opened (record x { lost = y.lost }) → StillLost x y → y.waiting.items ≡ x.waiting.items
     → y.awaits_dialect ≡ x.awaits_dialect → y.dialect ≡ x.dialect → y.late.items ≡ x.late.items → d.number ≡ c.number → bytes_of d.unsent ≡ bytes_of c.unsent → SettlesSome x.calls.sent.items c.held.items core y.calls.sent.items d.held.items core'
     → LineGoes IsOfTurn at core h x core' h y
-line_settles {at} {core} {core'} {h} x y c d was is off alone place waiting awaits speaks late number unsent s =
-    settles_to x y c d d.held.items was is off alone place waiting awaits speaks late number unsent (λ past agrees goes_on waits due called. has_conn at past h y d is agrees goes_on waits due called) s
+line_settles {at} {core} {core'} {h} x y c d was is off alone place still waiting awaits speaks late number unsent s =
+    settles_to x y c d d.held.items was is off alone place still waiting awaits speaks late number unsent (λ past agrees goes_on waits due called used tried. has_conn at past h y d is agrees goes_on waits due called used tried) s
 
 -- or it is lost
 pub line_loses :
-    {at : ℕ} {core core' : ServedCore} {h : List WireEvent} (x y : Link) (c d : Conn) (rest : List ℕ) → x.conn ≡ Some c → y.conn ≡ Some d → x.awaits_dialect ≡ None → x.late.items ≡ [] → server_and_opened y ≡ server_and_opened x
-    → y.waiting.items ≡ x.waiting.items → y.awaits_dialect ≡ x.awaits_dialect → y.dialect ≡ x.dialect → y.late.items ≡ x.late.items → d.number ≡ c.number → bytes_of d.unsent ≡ bytes_of c.unsent → SettlesSome x.calls.sent.items c.held.items core y.calls.sent.items rest core'
+    {at : ℕ} {core core' : ServedCore} {h : List WireEvent} (x y : Link) (c d : Conn) (rest : List ℕ) → x.conn ≡ Some c → y.conn ≡ Some d → x.awaits_dialect ≡ None → x.late.items ≡ [] → server_and_opened y ≡ server_and_opened (record x { lost = y.lost })
+    → StillLost x y → y.waiting.items ≡ x.waiting.items → y.awaits_dialect ≡ x.awaits_dialect → y.dialect ≡ x.dialect → y.late.items ≡ x.late.items → d.number ≡ c.number → bytes_of d.unsent ≡ bytes_of c.unsent → SettlesSome x.calls.sent.items c.held.items core y.calls.sent.items rest core'
     → LineGoesFrom LineAgrees LineLost IsOfTurn at core h x core' h y
-line_loses {at} {core} {core'} {h} x y c d rest was is off alone place waiting awaits speaks late number unsent s =
-    settles_to x y c d rest was is off alone place waiting awaits speaks late number unsent
-    (λ past agrees goes_on waits due called. record { conn = λ conn there. subst (λ (z : Conn). (held : List ℕ) × ConnAgrees at past h y z held) (same_some (sym is ∙ there)) (rest, agrees); waiting = waits; due = due; none_out = λ none. absurd (none_some (sym none ∙ is)); unused = λ none. absurd (none_some (sym none ∙ is)); called = called }) s
+line_loses {at} {core} {core'} {h} x y c d rest was is off alone place still waiting awaits speaks late number unsent s =
+    settles_to x y c d rest was is off alone place still waiting awaits speaks late number unsent
+    (λ past agrees goes_on waits due called used tried. record { conn = λ conn there. subst (λ (z : Conn). (held : List ℕ) × ConnAgrees at past h y z held) (same_some (sym is ∙ there)) (rest, agrees); waiting = waits; due = due; none_out = λ none. absurd (none_some (sym none ∙ is)); unused = λ none. absurd (none_some (sym none ∙ is)); called = called; used = λ conn there. used; tried = tried }) s
 
 -- ---- the end of a connection
 
 -- it had no connection in use, and nothing happened
 gives_none :
     {at : ℕ} {core : ServedCore} {h h' : List WireEvent} (why : Option Cause) (x y : Link) → x.conn ≡ None → h' ≡ h → y.conn ≡ None → y.draining ≡ x.draining → address_and_limits y ≡ address_and_limits x → y.waiting.items ≡ x.waiting.items
-    → y.calls.sent.items ≡ x.calls.sent.items → LineGoesFrom (LineLeaves why) LineAgrees (IsGivingUp why) at core h x core h' y
-gives_none {at} {core} {h} {h'} why x y had same closed draining server waiting sent =
+    → y.calls.sent.items ≡ x.calls.sent.items → y.lost ≡ x.lost → LineGoesFrom (LineLeaves why) LineAgrees (IsGivingUp why) at core h x core h' y
+gives_none {at} {core} {h} {h'} why x y had same closed draining server waiting sent lost =
     line_moves refl ([], same) (shut_still still (conns_same x y (closed ∙ sym had) draining)) server (λ past a. (left past a.0, all_kept (1, at) h h' still))
   where
     still : (d : ℕ) → IsUntouched d h h'
@@ -640,14 +682,14 @@ gives_none {at} {core} {h} {h'} why x y had same closed draining server waiting 
     left past a =
         has_none at past h' y closed (subst (λ w. MayAllGo past at w) (sym waiting) a.lost.waiting) (subst (λ w. AreDue past at (said_asks w)) (sym waiting) a.lost.due) (subst (λ (l : List SentCall). AllGivenUp past at (said_asks l)) (sym sent) (a.lost.none_out had))
         (subst (λ k. Unused k at y.text.items (talk_in past at) (drain_of y)) (sym same) (subst (λ t. Unused h at t (talk_in past at) (drain_of y)) (sym (same_text x y server)) (subst (λ (o : Option Conn). Unused h at x.text.items (talk_in past at) (option_map (λ (z : Conn). z.number) o)) (sym draining) (a.lost.unused had))))
-        (subst (λ (l : List SentCall). AreCalled past at (said_asks l)) (sym sent) a.lost.called)
+        (subst (λ (l : List SentCall). AreCalled past at (said_asks l)) (sym sent) a.lost.called) (as_tried lost refl a.lost.tried)
 
 -- it was given up, for what its connection showed, whatever that held; and so the connections that it has stand now
 gives_up :
     {at : ℕ} {core : ServedCore} {h h' : List WireEvent} (why : Option Cause) (x y : Link) (c : Conn) → x.conn ≡ Some c → TouchesOnly c.number h h' → role c.number h' ≡ role c.number h → y.conn ≡ None → address_and_limits y ≡ address_and_limits x
-    → y.waiting.items ≡ x.waiting.items → y.calls.sent.items ≡ x.calls.sent.items → StaysShut at h x h' y
+    → y.waiting.items ≡ x.waiting.items → y.calls.sent.items ≡ x.calls.sent.items → y.lost ≤ x.lost + 1 → StaysShut at h x h' y
     → ((past : List Step) → LineFails why at past h x → Unused h' at y.text.items (talk_in (Lost at why x.limits.connect_ms ∷ past) at) (drain_of y)) → LineGoesFrom (LineLeaves why) LineAgrees (IsGivingUp why) at core h x core h' y
-gives_up {at} {core} {h} {h'} why x y c e only same_role closed server waiting sent shut unused = record {
+gives_up {at} {core} {h} {h'} why x y c e only same_role closed server waiting sent lost shut unused = record {
   steps = Lost at why x.limits.connect_ms ∷ [];
   kinds = (refl, tt);
   own = (refl, tt);
@@ -661,6 +703,12 @@ gives_up {at} {core} {h} {h'} why x y c e only same_role closed server waiting s
     talk : (past : List Step) → talk_in (Lost at why x.limits.connect_ms ∷ past) at ≡ given_up why (talk_in past at)
     talk past = ap (λ b. if b then given_up why (talk_in past at) else talk_in past at) (equal at)
 
+    tried : (past : List Step) → LineFails why at past h x → y.lost ≤ (talk_in (Lost at why x.limits.connect_ms ∷ past) at).failed
+    tried past a =
+        let was : x.lost ≤ (talk_in past at).failed = a.lost.tried in
+        let now : (talk_in (Lost at why x.limits.connect_ms ∷ past) at).failed ≡ suc (talk_in past at).failed = ap (λ (t : Talk). t.failed) (talk past) ∙ ap (λ s. failed_after s (talk_in past at).failed) (a.lost.used c e) in
+        omega (arith, was, now, lost)
+
     given : (past : List Step) → LineFails why at past h x → AreGivenUp (Lost at why x.limits.connect_ms ∷ past) (said_asks y.calls.sent.items)
     given past a =
         given_now past at why x.limits.connect_ms (said_asks y.calls.sent.items)
@@ -670,7 +718,7 @@ gives_up {at} {core} {h} {h'} why x y c e only same_role closed server waiting s
     left past a =
         has_none at (Lost at why x.limits.connect_ms ∷ past) h' y closed (calls_later (Lost at why x.limits.connect_ms ∷ []) past at y.waiting.items (subst (λ w. MayAllGo past at w) (sym waiting) a.lost.waiting))
         (due_stays past (Lost at why x.limits.connect_ms ∷ past) at (said_asks y.waiting.items) (λ n ask is. (refl, refl, refl)) (subst (λ w. AreDue past at (said_asks w)) (sym waiting) a.lost.due)) (ap (λ (t : Talk). t.out) (talk past), given past a) (unused past a)
-        (called_stays past (Lost at why x.limits.connect_ms ∷ past) at (said_asks y.calls.sent.items) (λ n ask is. (refl, refl, refl)) (subst (λ (l : List SentCall). AreCalled past at (said_asks l)) (sym sent) a.lost.called))
+        (called_stays past (Lost at why x.limits.connect_ms ∷ past) at (said_asks y.calls.sent.items) (λ n ask is. (refl, refl, refl)) (subst (λ (l : List SentCall). AreCalled past at (said_asks l)) (sym sent) a.lost.called)) (tried past a)
 
     was_shown : (past : List Step) → LineFails why at past h x → WasShown why x.limits.connect_ms at past h'
     was_shown past a = let t = (a.lost.conn c e).1 in record {
@@ -688,13 +736,13 @@ gives_up {at} {core} {h} {h'} why x y c e only same_role closed server waiting s
 pub line_closes :
     {at : ℕ} {core : ServedCore} {h h' : List WireEvent} (why : Option Cause) → standing_after why ≡ Apart → (x y : Link) (r : Option ℕ) → r ≡ option_map (λ (z : Conn). z.number) x.conn → IfSome r (λ c. Closes c h h') → (r ≡ None → h' ≡ h) → y.conn ≡ None
     → MatchOption x.conn (y.draining ≡ x.draining) (λ c. y.draining ≡ None) → address_and_limits y ≡ address_and_limits x → y.waiting.items ≡ x.waiting.items → y.calls.sent.items ≡ x.calls.sent.items
-    → LineGoesFrom (LineLeaves why) LineAgrees (IsGivingUp why) at core h x core h' y
-line_closes {at} {core} {h} {h'} why apart x y r r_is some none closed draining server waiting sent = by x.conn refl draining
+    → MatchOption x.conn (y.lost ≡ x.lost) (λ c. y.lost ≤ x.lost + 1) → LineGoesFrom (LineLeaves why) LineAgrees (IsGivingUp why) at core h x core h' y
+line_closes {at} {core} {h} {h'} why apart x y r r_is some none closed draining server waiting sent lost = by x.conn refl draining lost
   where
-    by : (o : Option Conn) → x.conn ≡ o → MatchOption o (y.draining ≡ x.draining) (λ c. y.draining ≡ None) → LineGoesFrom (LineLeaves why) LineAgrees (IsGivingUp why) at core h x core h' y
-    by None e same = gives_none why x y e (none (r_is ∙ ap (option_map (λ (z : Conn). z.number)) e)) closed same server waiting sent
-    by (Some c) e undrained =
-        gives_up why x y c e only (closed_role c.number h h' closes_it) closed server waiting sent (shut_closed c.number only (closed_shut c.number h h' closes_it) (conn_is x c e))
+    by : (o : Option Conn) → x.conn ≡ o → MatchOption o (y.draining ≡ x.draining) (λ c. y.draining ≡ None) → MatchOption o (y.lost ≡ x.lost) (λ c. y.lost ≤ x.lost + 1) → LineGoesFrom (LineLeaves why) LineAgrees (IsGivingUp why) at core h x core h' y
+    by None e same less = gives_none why x y e (none (r_is ∙ ap (option_map (λ (z : Conn). z.number)) e)) closed same server waiting sent less
+    by (Some c) e undrained less =
+        gives_up why x y c e only (closed_role c.number h h' closes_it) closed server waiting sent less (shut_closed c.number only (closed_shut c.number h h' closes_it) (conn_is x c e))
         (λ past a. subst (λ (o : Option Conn). Unused h' at y.text.items (talk_in (Lost at why x.limits.connect_ms ∷ past) at) (option_map (λ (z : Conn). z.number) o)) (sym undrained)
         (ap (λ b. (if b then given_up why (talk_in past at) else talk_in past at).stands) (equal at) ∙ apart))
       where
@@ -707,16 +755,16 @@ line_closes {at} {core} {h} {h'} why apart x y r r_is some none closed draining 
 -- or it can't be kept, and its end is awaited
 pub line_drains :
     {at : ℕ} {core : ServedCore} {h h' : List WireEvent} (why : Option Cause) → standing_after why ≡ Ending → (x y : Link) → h' ≡ h → y.conn ≡ None → conn_of y ≡ conn_of x → (x.conn ≡ None → y.draining ≡ x.draining) → address_and_limits y ≡ address_and_limits x
-    → y.waiting.items ≡ x.waiting.items → y.calls.sent.items ≡ x.calls.sent.items → LineGoesFrom (LineLeaves why) LineAgrees (IsGivingUp why) at core h x core h' y
-line_drains {at} {core} {h} {h'} why ending x y same closed conns draining server waiting sent = by x.conn refl
+    → y.waiting.items ≡ x.waiting.items → y.calls.sent.items ≡ x.calls.sent.items → MatchOption x.conn (y.lost ≡ x.lost) (λ c. y.lost ≤ x.lost + 1) → LineGoesFrom (LineLeaves why) LineAgrees (IsGivingUp why) at core h x core h' y
+line_drains {at} {core} {h} {h'} why ending x y same closed conns draining server waiting sent lost = by x.conn refl lost
   where
     still : (d : ℕ) → IsUntouched d h h'
     still d = subst (IsUntouched d h) (sym same) (untouched d h)
 
-    by : (o : Option Conn) → x.conn ≡ o → LineGoesFrom (LineLeaves why) LineAgrees (IsGivingUp why) at core h x core h' y
-    by None e = gives_none why x y e same closed (draining e) server waiting sent
-    by (Some c) e =
-        gives_up why x y c e (λ d other. still d) (still c.number).same_role closed server waiting sent (shut_still still conns)
+    by : (o : Option Conn) → x.conn ≡ o → MatchOption o (y.lost ≡ x.lost) (λ c. y.lost ≤ x.lost + 1) → LineGoesFrom (LineLeaves why) LineAgrees (IsGivingUp why) at core h x core h' y
+    by None e less = gives_none why x y e same closed (draining e) server waiting sent less
+    by (Some c) e less =
+        gives_up why x y c e (λ d other. still d) (still c.number).same_role closed server waiting sent less (shut_still still conns)
         (λ past a. subst (Unused h' at y.text.items (talk_in (Lost at why x.limits.connect_ms ∷ past) at)) (sym (sym (conn_drains y closed) ∙ conns ∙ conn_is x c e)) (awaited past a))
       where
         awaited : (past : List Step) → LineFails why at past h x → Unused h' at y.text.items (talk_in (Lost at why x.limits.connect_ms ∷ past) at) (Some c.number)
@@ -739,6 +787,8 @@ noted_fails why at obstacle past h x a = record {
     none_out = λ none. let out = a.lost.none_out none in (out.0, all_given_later (Noted at obstacle ∷ []) past (said_asks x.calls.sent.items) out.1);
     unused = a.lost.unused;
     called = called_stays past (Noted at obstacle ∷ past) at (said_asks x.calls.sent.items) (λ n ask is. (refl, refl, refl)) a.lost.called;
+    used = a.lost.used;
+    tried = a.lost.tried;
   };
   shows = a.shows;
 }
@@ -783,7 +833,7 @@ line_away {at = at} {h = h} {h' = h'} x y c d bytes none was is number r =
         let waits = sym (ap (λ (z : Link). z.waiting.items) is) in
         has_none at past h' y (ap (λ (z : Link). z.conn) is ∙ none) (subst (λ w. MayAllGo past at w) waits a.waiting) (subst (λ w. AreDue past at (said_asks w)) waits a.due) (subst (λ l. AllGivenUp past at l) (sym (ap (λ (z : Link). said_asks z.calls.sent.items) is)) (a.none_out none))
         (subst (Unused h' at y.text.items (talk_in past at)) (sym drains) (subst (λ w. Unused h' at w (talk_in past at) (Some c.number)) (sym (ap (λ (z : Link). z.text.items) is)) (now past a)))
-        (subst (λ l. AreCalled past at l) (sym (ap (λ (z : Link). said_asks z.calls.sent.items) is)) a.called)
+        (subst (λ l. AreCalled past at l) (sym (ap (λ (z : Link). said_asks z.calls.sent.items) is)) a.called) (as_tried (ap (λ (z : Link). z.lost) is) refl a.tried)
 
 -- where none is in use then, and none is awaited, it wasn't for want of room
 apart_noted : (why : Option Cause) (at : ℕ) (past : List Step) → standing_after why ≡ Apart → IsNotedFor why at past
@@ -834,6 +884,7 @@ line_ends {Is} {at} {core} {h} {k} {h'} why kind apart x y c none was is r shows
         )
         (subst (Unused h' at y.text.items (talk_in (Lost at why x.limits.connect_ms ∷ past) at)) (sym (ap drain_of is)) (ap (λ (t : Talk). t.stands) (talk past) ∙ apart))
         (called_stays past (Lost at why x.limits.connect_ms ∷ past) at (said_asks y.calls.sent.items) (λ n ask is. (refl, refl, refl)) (subst (λ l. AreCalled past at l) (sym (ap (λ (z : Link). said_asks z.calls.sent.items) is)) a.called))
+        (as_tried (ap (λ (z : Link). z.lost) is) (ap (λ (t : Talk). t.failed) (talk past) ∙ ap (λ s. failed_after s (talk_in past at).failed) (before past a).0) a.tried)
 
     was_shown : (past : List Step) → LineAgrees at past h x → WasShown why x.limits.connect_ms at past h'
     was_shown past a =
@@ -860,8 +911,8 @@ line_ends {Is} {at} {core} {h} {k} {h'} why kind apart x y c none was is r shows
 -- it had none in use, and has none then
 pub line_shuts :
     {Before : ℕ → List Step → List WireEvent → Link → Type 0} {Is : Step → Type 0} {at : ℕ} {a b : ServedCore} {h h' : List WireEvent} {x y z : Link} → LineGoesFrom Before LineAgrees Is at a h x b h' y → y.conn ≡ None → z.conn ≡ None
-    → z.draining ≡ y.draining → address_and_limits z ≡ address_and_limits y → z.waiting.items ≡ y.waiting.items → z.calls.sent.items ≡ y.calls.sent.items → LineGoesFrom Before LineAgrees Is at a h x b h' z
-line_shuts {at = at} {h' = h'} {x = x} {y = y} {z = z} g none closed draining server waiting sent = record {
+    → z.draining ≡ y.draining → address_and_limits z ≡ address_and_limits y → z.waiting.items ≡ y.waiting.items → z.calls.sent.items ≡ y.calls.sent.items → z.lost ≡ y.lost → LineGoesFrom Before LineAgrees Is at a h x b h' z
+line_shuts {at = at} {h' = h'} {x = x} {y = y} {z = z} g none closed draining server waiting sent lost = record {
   steps = g.steps;
   kinds = g.kinds;
   own = g.own;
@@ -870,7 +921,7 @@ line_shuts {at = at} {h' = h'} {x = x} {y = y} {z = z} g none closed draining se
     r.0,
     has_none at (g.steps ++ past) h' z closed (subst (λ w. MayAllGo (g.steps ++ past) at w) (sym waiting) r.1.waiting) (subst (λ w. AreDue (g.steps ++ past) at (said_asks w)) (sym waiting) r.1.due) (subst (λ (l : List SentCall). AllGivenUp (g.steps ++ past) at (said_asks l)) (sym sent) (r.1.none_out none))
         (subst (λ t. Unused h' at t (talk_in (g.steps ++ past) at) (drain_of z)) (sym (same_text y z server)) (subst (λ (o : Option Conn). Unused h' at y.text.items (talk_in (g.steps ++ past) at) (option_map (λ (c : Conn). c.number) o)) (sym draining) (r.1.unused none)))
-        (subst (λ (l : List SentCall). AreCalled (g.steps ++ past) at (said_asks l)) (sym sent) r.1.called),
+        (subst (λ (l : List SentCall). AreCalled (g.steps ++ past) at (said_asks l)) (sym sent) r.1.called) (as_tried lost refl r.1.tried),
     r.2,
     r.3,
   );
@@ -947,8 +998,8 @@ unused_apart h at text talk (Some c) is = λ e. ending_used (sym is.0 ∙ e)
 -- calls of it fail, while it has no connection: of those that were sent, and of those that wait, the first do
 pub line_fails :
     {why : Option Cause} {at : ℕ} {core core' : ServedCore} {h : List WireEvent} (x y : Link) (mid : ServedCore) → FailsTo x.calls.sent.items y.calls.sent.items core mid → FailsTo x.waiting.items y.waiting.items mid core'
-    → x.conn ≡ None → y.conn ≡ None → y.draining ≡ x.draining → address_and_limits y ≡ address_and_limits x → LineGoes (IsGivingUp why) at core h x core' h y
-line_fails {why} {at} {core} {core'} {h} x y mid sent waiting had none draining server = record {
+    → x.conn ≡ None → y.conn ≡ None → y.draining ≡ x.draining → address_and_limits y ≡ address_and_limits x → y.lost ≡ x.lost → LineGoes (IsGivingUp why) at core h x core' h y
+line_fails {why} {at} {core} {core'} {h} x y mid sent waiting had none draining server lost = record {
   steps = w.steps ++ f.steps;
   kinds = failed_giving why (w.steps ++ f.steps) kinds;
   own = own.0;
@@ -963,7 +1014,7 @@ line_fails {why} {at} {core} {core'} {h} x y mid sent waiting had none draining 
         (subst (λ t. Unused h at t (talk_in ((w.steps ++ f.steps) ++ past) at) (drain_of y)) (sym (same_text x y server))
         (subst (λ (o : Option Conn). Unused h at x.text.items (talk_in ((w.steps ++ f.steps) ++ past) at) (option_map (λ (z : Conn). z.number) o)) (sym draining)
         (subst (λ u. Unused h at x.text.items u (drain_of x)) (sym (plain_talk (w.steps ++ f.steps) own.1 past at)) (a.unused had))))
-        (left past a).called,
+        (left past a).called (as_tried lost (ap (λ (t : Talk). t.failed) (plain_talk (w.steps ++ f.steps) own.1 past at)) a.tried),
     all_kept (1, at) h h (quiet h),
     (left past a).others,
   );

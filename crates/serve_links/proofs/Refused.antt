@@ -1,6 +1,5 @@
 -- Why a call isn't sent over a link, whatever else waits for it.
 use Rattle.std.proofs.Common.{◌≡◌, ℕ, List, ◌∷◌, sym, subst}
-use Rattle.core_accepted.specs.declared.tally.Unshown.TheVariants as unshown
 use Rattle.serve_links.specs.declared.calls.calls.SentCall.{SentCall}
 use Rattle.serve_links.specs.declared.link.Link.{Link}
 use Rattle.serve_links.specs.declared.refusal.Refusal.{Refusal}
@@ -17,10 +16,8 @@ refused_anew why since now x y is was = subst (IsRefused why since now) (sym is)
     by refusals.Emptying r = r
     by refusals.ForeignCame r = r
     by refusals.WaitedLong r = r
-    by (refusals.Unseen unshown.NoMemory) r = r
-    by (refusals.Unseen unshown.Retired) r = r
-    by (refusals.Unseen unshown.LeftAlone) r = r
-    by (refusals.Unseen unshown.NoRoom) r = r
+    by refusals.LeftAlone r = r
+    by refusals.NoMemory r = r
 
 pub first_is : (Is : SentCall → Type 0) (calls rest : List SentCall) (call : SentCall) → calls ≡ call ∷ rest → FirstIs Is calls → Is call
 first_is Is calls rest call same first = subst (FirstIs Is) same first

@@ -1,5 +1,5 @@
 -- How the ends of a proxy go on, one after another.
-use Rattle.std.proofs.Common.{◌≡◌, ◌≢◌, ◌⊎◌, ℕ, Bool, true, false, List, [], ◌∷◌, ◌++◌, Option, Some, None, refl, sym, ap, ◌∙◌, subst, inl, inr, append_assoc, append-nil}
+use Rattle.std.proofs.Common.{◌≡◌, ◌≢◌, ℕ, ◌≤◌, Bool, true, false, List, [], ◌∷◌, ◌++◌, Option, Some, None, refl, sym, ap, ◌∙◌, subst, inl, inr, append_assoc, append-nil}
 use Rattle.std.specs.Prelude.{IfSome, nat_eq, slice_get}
 use Rattle.std.specs.Option.{option_map, option_flatten}
 use Rattle.std.proofs.lemmas.Bool.{cases_Bool, eq-eqb, eqb-true}
@@ -112,6 +112,8 @@ line_stays_by h h' at steps past link same told due called was = record {
   none_out = λ none. (ap (λ (t : Talk). t.out) told ∙ (was.none_out none).0, all_given_later steps past (said_asks link.calls.sent.items) (was.none_out none).1);
   unused = λ none. unused_stays h h' at link.text.items (talk_in past at) (talk_in (steps ++ past) at) (drain_of link) same told (was.unused none);
   called = called;
+  used = λ conn is. ap (λ (t : Talk). t.stands) told ∙ was.used conn is;
+  tried = subst (λ n. link.lost ≤ n) (ap (λ (t : Talk). t.failed) (sym told)) was.tried;
 }
 
 -- so they are where they stay out

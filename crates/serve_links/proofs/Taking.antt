@@ -1,5 +1,5 @@
 -- A call that is taken from those that wait.
-use Rattle.std.proofs.Common.{◌≡◌, ◌⊎◌, ℕ, zero, suc, ◌<◌, List, [], ◌∷◌, ◌++◌, take, drop, length, Option, Some, None, refl, sym, ap, ◌∙◌, subst, arith}
+use Rattle.std.proofs.Common.{◌≡◌, ℕ, zero, suc, ◌<◌, List, [], ◌∷◌, ◌++◌, take, drop, length, Option, Some, None, refl, sym, ap, arith}
 use Rattle.std.specs.Prelude.{◌↔◌, IsSome, IfSome, IfNone, OnSome, MatchOption, slice_index_or}
 use Rattle.std.specs.List.{remove}
 use Rattle.serve_links.specs.declared.calls.calls.SentCall.{SentCall}

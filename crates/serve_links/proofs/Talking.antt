@@ -300,7 +300,7 @@ pub talk_elsewhere : (at : ℕ) (steps : List Step) → StepsAreOf (IsOfServer a
 talk_elsewhere at [] own past j other = refl
 talk_elsewhere at (Settled number outcome ∷ steps) own past j other = talk_elsewhere at steps own.1 past j other
 talk_elsewhere at (Linked a dialect ∷ steps) own past j other =
-    ap (λ b. if b then first_talk dialect else talk_in (steps ++ past) j) (ap (λ n. nat_eq n j) own.0 ∙ other) ∙ talk_elsewhere at steps own.1 past j other
+    ap (λ b. if b then first_talk dialect (talk_in (steps ++ past) j).failed else talk_in (steps ++ past) j) (ap (λ n. nat_eq n j) own.0 ∙ other) ∙ talk_elsewhere at steps own.1 past j other
 talk_elsewhere at (Asked a number dialect ask since ∷ steps) own past j other =
     ap (λ b. if b then with_ask number dialect ask since (talk_in (steps ++ past) j) else talk_in (steps ++ past) j) (ap (λ n. nat_eq n j) own.0 ∙ other) ∙ talk_elsewhere at steps own.1 past j other
 talk_elsewhere at (Greeted a dialect bytes ∷ steps) own past j other =

@@ -24,7 +24,7 @@ use Rattle.core_accepted.specs.Known.{Known, more}
 use Rattle.core_accepted.specs.Loading.{IsLoaded}
 use Rattle.serve_links.specs.Calls.{SettlesFirst, SettlesNext}
 use Rattle.serve_links.specs.CoreSteps.{WalksKeepSince}
-use Rattle.serve_links.specs.CoreSteps.{Obstacle, WaitedLong, StoreLate, ForeignCame, Unseen, Notes, Step, Opened, NotOpened, Fed, Polled, Stopped, Settled, Gave, Closed, LeftLine, Broke, Ticked, Loaded, Linked, Asked, Greeted, Spelled, Late, CameLate, Lost, Noted, Does, Walks, StepsAreOf, GoesBy, IsOfTurn, IsSettlement, IsFailure, GoesOn, OnlyFails, WalksKeep}
+use Rattle.serve_links.specs.CoreSteps.{Obstacle, WaitedLong, StoreLate, ForeignCame, LeftAlone, Unseen, Notes, Step, Opened, NotOpened, Fed, Polled, Stopped, Settled, Gave, Closed, LeftLine, Broke, Ticked, Loaded, Linked, Asked, Greeted, Spelled, Late, CameLate, Lost, Noted, Does, Walks, StepsAreOf, GoesBy, IsOfTurn, IsSettlement, IsFailure, GoesOn, OnlyFails, WalksKeep}
 
 pub walked : (later first : List Step) (a b c : ServedCore) → Walks first a b → Walks later b c → Walks (later ++ first) a c
 walked [] first a b c w v = subst (λ x. Walks first a x) (sym v) w
@@ -216,6 +216,7 @@ loaded_keeps configuration generation a b loaded = inr (configuration, loaded.wo
 noted_keeps : (obstacle : Obstacle) (a b : ServedCore) → Notes obstacle a b → IsWordKept a b
 noted_keeps (WaitedLong number limit) a b does = as_it_was a b does
 noted_keeps (StoreLate limit) a b does = as_it_was a b does
+noted_keeps (LeftAlone limit) a b does = as_it_was a b does
 noted_keeps ForeignCame a b does = as_it_was a b does
 noted_keeps (Unseen why) a b does = by_word a b does.1.word
 

@@ -1,5 +1,5 @@
 -- How many calls of a server a walk tells of, and that what is counted is just that. Source: mcgate's own.
-use Rattle.std.specs.Prelude.{◌≡◌, ℕ, ◌+◌, Bool, true, false, List, [], ◌∷◌, ◌++◌, Option, Some, None, if◌then◌else◌, nat_eq, ◌&&◌}
+use Rattle.std.specs.Prelude.{◌≡◌, ℕ, ◌+◌, Bool, false, List, [], ◌∷◌, ◌++◌, Option, Some, None, if◌then◌else◌, nat_eq, ◌&&◌}
 use Rattle.mc_types.specs.declared.ask.Ask.{Ask}
 use Rattle.core_proxy.specs.declared.note.Poll.TheVariants as polls
 use Rattle.core_accepted.specs.declared.tally.CoreTally.{CoreTally}

@@ -24,12 +24,13 @@ use Rattle.core_accepted.specs.Tallies.{with_client, with_refusal, with_unshown}
 use Rattle.serve_links.specs.declared.settings.Greeting.{Greeting}
 use Rattle.serve_links.specs.declared.news.Cause.{Cause}
 
--- what keeps a call from being sent to its server, beside what was said over its connection: the call of this number has waited to go out for longer than so many milliseconds; a store that is out there is awaited, and has taken longer than that; what came over the connection is foreign; or
--- what nothing shows, for which a connection may be given up too
+-- what keeps a call from being sent to its server, beside what was said over its connection: the call of this number has waited to go out for longer than so many milliseconds; a store that is out there is awaited, and has taken longer than that; what came over the connection is foreign; so many of its
+-- connections in a row were given up as are allowed, and a call that is out there tries it; or what nothing shows, for which a connection may be given up too
 pub data Obstacle : Type 0 where
   WaitedLong : (number limit : ℕ) → Obstacle
   StoreLate : (limit : ℕ) → Obstacle
   ForeignCame : Obstacle
+  LeftAlone : (limit : ℕ) → Obstacle
   Unseen : (why : Unshown) → Obstacle
 
 -- one call of a core that changes it, and what came of it; or what changes no core: the clock was looked at, and showed so many milliseconds; a client was broken off, as its connection failed or memory was refused for its bytes; or at a
@@ -61,6 +62,7 @@ abbrev pub Notes : Obstacle → ServedCore → ServedCore → Type 0
 Notes (WaitedLong number limit) old new = new ≡ old
 Notes (StoreLate limit) old new = new ≡ old
 Notes ForeignCame old new = new ≡ old
+Notes (LeftAlone limit) old new = new ≡ old
 Notes (Unseen why) old new = (new.core ≡ old.core) × StaysCounting (with_unshown why) old new
 
 -- a core goes from one state to another by this call: as the core's own call of that name goes, and with each log that may have led to it. By what was done at a connection it stays; where bytes

@@ -99,7 +99,7 @@ pub record ResultsAreCounted (steps : List Step) (tally : CoreTally) : Type 0 wh
 
 -- for each of what nothing shows, by how many of these steps it was noted is counted
 pub record NotesAreCounted (steps : List Step) (tally : CoreTally) : Type 0 where
-  pub places : length tally.unshown ≡ 4
+  pub places : length tally.unshown ≡ 2
   pub noted : (why : Unshown) → of_unshown tally why ≡ counted (number_of (notes_one why) steps)
 
 -- laws of all walks: a core that is new has counted none; and one that has counted the steps before a walk has counted those of the walk after it. So it is with the results of calls where those are settled that are out, as in an orderly walk; a result for which no call was out isn't counted

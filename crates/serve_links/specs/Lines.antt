@@ -63,7 +63,7 @@ SameLine None y = y ≡ None
 SameLine (Some x) None = ⊥
 SameLine (Some x) (Some y) = SameEnd x y
 
--- a link is to the server that it was to, with the limits that it had, has the connections that it had, the one in use since when it had it and with the same bytes, and the same calls, late ones too, asks in the same dialect, and awaits of its server's dialects what it did
+-- a link is to the server that it was to, with the limits that it had, has the connections that it had, the one in use since when it had it and with the same bytes, and the same calls, late ones too, asks in the same dialect, awaits of its server's dialects what it did, and counts as many connections in a row that were given up
 pub record KeepsLines (old new : Link) : Type 0 where
   pub text : new.text ≡ old.text
   pub limits : new.limits ≡ old.limits
@@ -75,6 +75,7 @@ pub record KeepsLines (old new : Link) : Type 0 where
   pub waiting : new.waiting ≡ old.waiting
   pub awaits : new.awaits_dialect ≡ old.awaits_dialect
   pub dialect : new.dialect ≡ old.dialect
+  pub lost : new.lost ≡ old.lost
 
 -- it has this end: nothing came over it, and what is asked first is to be sent
 abbrev pub IsNewEnd : ℕ → Greeting → Option Conn → Type 0
@@ -95,6 +96,7 @@ pub record HasNewEnd (number since : ℕ) (greeting : Greeting) (old new : Link)
   pub waiting : new.waiting ≡ old.waiting
   pub awaits : new.awaits_dialect ≡ awaits_first greeting
   pub speaks : new.dialect ≡ first_dialect greeting.dialect
+  pub lost : new.lost ≡ old.lost
 
 -- what is asked first over a new connection of the link
 abbrev pub greeting_of : Link → ServerDialect → Greeting

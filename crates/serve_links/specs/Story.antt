@@ -19,10 +19,10 @@ use Rattle.serve_links.specs.declared.calls.late_call.LateCall.{LateCall}
 use Rattle.serve_links.specs.declared.link.Link.{Link}
 use Rattle.serve_links.specs.declared.news.Cause.{Cause}
 use Rattle.serve_links.specs.declared.news.Cause.TheVariants as causes
-use Rattle.serve_links.specs.CoreSteps.{Obstacle, WaitedLong, StoreLate, ForeignCame, Unseen, Step, Opened, NotOpened, Fed, Polled, Stopped, Settled, Gave, Closed, LeftLine, Broke, Ticked, Loaded, Linked, Asked, Greeted, Spelled, Late, CameLate, Lost, Noted, Walks, StepsAreOf}
+use Rattle.serve_links.specs.CoreSteps.{Obstacle, WaitedLong, StoreLate, ForeignCame, LeftAlone, Unseen, Step, Opened, NotOpened, Fed, Polled, Stopped, Settled, Gave, Closed, LeftLine, Broke, Ticked, Loaded, Linked, Asked, Greeted, Spelled, Late, CameLate, Lost, Noted, Walks, StepsAreOf}
 use Rattle.serve_links.specs.Shut.{drain_of, AreShut, StaysShut}
 use Rattle.serve_links.specs.Called.{call_in, due_in, clock_in, given_in, TellsCallsOut}
-use Rattle.serve_links.specs.Talks.{SaidAsk, Talk, Apart, Ending, talk_in, IsCalledIn, MayBeAsked, IsStoreFirst, IsNotAmong, IsNotedFor, AreGivenUp, AreDue, AreCalled, CanNotGo, IsOrderly, IsOfClients, IsOfServer}
+use Rattle.serve_links.specs.Talks.{SaidAsk, Talk, Apart, InUse, Ending, talk_in, IsCalledIn, MayBeAsked, IsStoreFirst, IsNotAmong, IsNotedFor, AreGivenUp, AreDue, AreCalled, CanNotGo, IsOrderly, IsOfClients, IsOfServer}
 use Rattle.std.specs.Option.{option_map}
 
 -- all that the core was fed for this client since it was opened, by the calls of a walk, the latest first
@@ -218,7 +218,7 @@ Unused h at text talk (Some c) = (talk.stands ≡ Ending) × (held unsent : List
 abbrev pub AllGivenUp : List Step → ℕ → List SaidAsk → Type 0
 AllGivenUp past at calls = ((talk_in past at).out ≡ []) × AreGivenUp past calls
 
--- a link agrees with these calls, its connection is not over, and all calls that wait for it may go there, and weren't asked yet, and those that were sent are out; without a connection no call is out there, and that of those was given up
+-- a link agrees with these calls, its connection is not over, and all calls that wait for it may go there, and weren't asked yet, and those that were sent are out; without a connection no call is out there, and that of those was given up; and it counts no more connections in a row that were given up than there were
 pub record LineAgrees (at : ℕ) (past : List Step) (h : List WireEvent) (link : Link) : Type 0 where
   pub conn : (conn : Conn) → link.conn ≡ Some conn → ConnAgrees at past h link conn conn.held.items
   pub goes_on : (conn : Conn) → link.conn ≡ Some conn → is_over conn.number h ≡ false
@@ -227,6 +227,8 @@ pub record LineAgrees (at : ℕ) (past : List Step) (h : List WireEvent) (link :
   pub none_out : link.conn ≡ None → AllGivenUp past at (said_asks link.calls.sent.items)
   pub unused : link.conn ≡ None → Unused h at link.text.items (talk_in past at) (drain_of link)
   pub called : AreCalled past at (said_asks link.calls.sent.items)
+  pub used : (conn : Conn) → link.conn ≡ Some conn → (talk_in past at).stands ≡ InUse
+  pub tried : link.lost ≤ (talk_in past at).failed
 
 -- a link whose bytes were lost, or whose connection is over, agrees with these calls but for what it holds
 pub record LineLost (at : ℕ) (past : List Step) (h : List WireEvent) (link : Link) : Type 0 where
@@ -236,6 +238,8 @@ pub record LineLost (at : ℕ) (past : List Step) (h : List WireEvent) (link : L
   pub none_out : link.conn ≡ None → AllGivenUp past at (said_asks link.calls.sent.items)
   pub unused : link.conn ≡ None → Unused h at link.text.items (talk_in past at) (drain_of link)
   pub called : AreCalled past at (said_asks link.calls.sent.items)
+  pub used : (conn : Conn) → link.conn ≡ Some conn → (talk_in past at).stands ≡ InUse
+  pub tried : link.lost ≤ (talk_in past at).failed
 
 -- this has happened
 abbrev pub HasHappened : WireEvent → List WireEvent → Type 0
@@ -287,6 +291,7 @@ abbrev pub ObstacleIsShown : Obstacle → (at : ℕ) → List Step → List Wire
 ObstacleIsShown ForeignCame at past h = WasShown (Some causes.ForeignAnswer) 0 at past h
 ObstacleIsShown (WaitedLong number limit) at past h = Unit {0}
 ObstacleIsShown (StoreLate limit) at past h = Unit {0}
+ObstacleIsShown (LeftAlone limit) at past h = Unit {0}
 ObstacleIsShown (Unseen why) at past h = Unit {0}
 
 -- where a connection is given up by this step, or what came over it is foreign, it showed why at some time; and where a call is late, the clock showed by then what it is late by
@@ -342,26 +347,27 @@ LinesAgree past h links = (at : ℕ) (link : Link) → slice_get links at ≡ So
 abbrev pub address_and_limits : Link → List ℕ × LinkLimits
 address_and_limits link = (link.text.items, link.limits)
 
--- what names the address of a link's server, the limits that it has, and what the clock showed when the connection was begun that it has
-abbrev pub server_and_opened : Link → (List ℕ × LinkLimits) × ℕ
-server_and_opened link = (address_and_limits link, link.opened)
+-- what names the address of a link's server, the limits that it has, what the clock showed when the connection was begun that it has, and how many in a row were given up
+abbrev pub server_and_opened : Link → (List ℕ × LinkLimits) × ℕ × ℕ
+server_and_opened link = (address_and_limits link, link.opened, link.lost)
 
--- all that a link has to do with its connections and its calls: its server's address and limits, and when the connection was begun, the connection's number, what is held of it and what is to be sent, the calls that are out, those that wait,
+-- all that a link has to do with its connections and its calls: its server's address and limits, when the connection was begun and how many in a row were given up, the connection's number, what is held of it and what is to be sent, the calls that are out, those that wait,
 -- what its server was asked first and is still to answer, in which dialect calls are asked, those that were late, and the number of the connection whose end is awaited
 abbrev pub LineState : Type 0
-LineState = ((List ℕ × LinkLimits) × ℕ) × Option (ℕ × List ℕ × List ℕ) × List SaidAsk × List SentCall × Option Greeting × Dialect × List SaidAsk × Option ℕ
+LineState = ((List ℕ × LinkLimits) × ℕ × ℕ) × Option (ℕ × List ℕ × List ℕ) × List SaidAsk × List SentCall × Option Greeting × Dialect × List SaidAsk × Option ℕ
 
 abbrev pub line_of : Link → LineState
 line_of link = (server_and_opened link, option_map (λ (x : Conn). (x.number, x.held.items, bytes_of x.unsent)) link.conn, said_asks link.calls.sent.items, link.waiting.items, link.awaits_dialect, link.dialect, said_late link.late.items, drain_of link)
 
--- a call that waits, or a store, has taken longer than this limit, where there is one
-abbrev pub ObstacleIsByLimit : Option ℕ → Obstacle → Type 0
-ObstacleIsByLimit most (WaitedLong number limit) = most ≡ Some limit
-ObstacleIsByLimit most (StoreLate limit) = most ≡ Some limit
+-- a call that waits, or a store, has taken longer than these limits say, where there are some; or a server is left alone after as many failures as they say
+abbrev pub ObstacleIsByLimit : Option LinkLimits → Obstacle → Type 0
+ObstacleIsByLimit most (WaitedLong number limit) = option_map (λ (limits : LinkLimits). limits.call_ms) most ≡ Some limit
+ObstacleIsByLimit most (StoreLate limit) = option_map (λ (limits : LinkLimits). limits.call_ms) most ≡ Some limit
 ObstacleIsByLimit most ForeignCame = Unit {0}
+ObstacleIsByLimit most (LeftAlone limit) = option_map (λ (limits : LinkLimits). limits.fail_limit) most ≡ Some limit
 ObstacleIsByLimit most (Unseen why) = Unit {0}
 
--- a step by which a call is late, or has waited long, tells for how long those of its server may take, and one by which a connection is given up for how long it may take until it takes calls, where this says the limits of each server
+-- a step by which a call is late, or has waited long, tells for how long those of its server may take, one by which a server is left alone after how many failures, and one by which a connection is given up for how long it may take until it takes calls, where this says the limits of each server
 abbrev pub IsByLimit : (ℕ → Option LinkLimits) → Step → Type 0
 IsByLimit most (Late at number limit now) = option_map (λ (limits : LinkLimits). limits.call_ms) (most at) ≡ Some limit
 IsByLimit most (Opened client) = Unit {0}
@@ -379,7 +385,7 @@ IsByLimit most (Loaded configuration generation) = Unit {0}
 IsByLimit most (Linked at dialect) = Unit {0}
 IsByLimit most (Asked at number dialect ask since) = Unit {0}
 IsByLimit most (Greeted at dialect bytes) = Unit {0}
-IsByLimit most (Noted at obstacle) = ObstacleIsByLimit (option_map (λ (limits : LinkLimits). limits.call_ms) (most at)) obstacle
+IsByLimit most (Noted at obstacle) = ObstacleIsByLimit (most at) obstacle
 IsByLimit most (CameLate at number ask answer bytes) = Unit {0}
 IsByLimit most (Spelled at number ask answer bytes) = Unit {0}
 IsByLimit most (Lost at why limit) = option_map (λ (limits : LinkLimits). limits.connect_ms) (most at) ≡ Some limit

@@ -1,5 +1,5 @@
 -- What a walk tells of what was said over each server's connection. Source: mcgate's own.
-use Rattle.std.specs.Prelude.{Option, None, Some, ◌≡◌, ◌≢◌, ◌⊎◌, ℕ, ◌+◌, ◌<◌, ◌≤◌, true, false, List, [], ◌∷◌, ◌++◌, nat_eq, length, if◌then◌else◌}
+use Rattle.std.specs.Prelude.{Option, None, Some, ◌≡◌, ◌≢◌, ◌⊎◌, ℕ, suc, ◌+◌, ◌<◌, ◌≤◌, true, false, List, [], ◌∷◌, ◌++◌, nat_eq, length, if◌then◌else◌}
 use Rattle.mc_types.specs.declared.ask.Ask.{Ask}
 use Rattle.mc_types.specs.declared.ask.Dialect.{Dialect}
 use Rattle.mc_types.specs.declared.ask.Dialect.TheVariants.{Classic}
@@ -17,7 +17,7 @@ use Rattle.serve_links.specs.declared.news.Cause.TheVariants as causes
 use Rattle.serve_links.specs.Dialects.{asked_in, SpellsIn, GreetsAwaited, awaits_flush}
 use Rattle.serve_links.specs.declared.settings.Greeting.{Greeting}
 use Rattle.serve_links.specs.Lines.{first_asked_of, awaits_first, first_dialect}
-use Rattle.serve_links.specs.CoreSteps.{Obstacle, WaitedLong, StoreLate, ForeignCame, Unseen, Step, Opened, NotOpened, Fed, Polled, Stopped, Settled, Gave, Closed, LeftLine, Broke, Ticked, Loaded, Linked, Asked, Greeted, Spelled, Late, CameLate, Lost, Noted}
+use Rattle.serve_links.specs.CoreSteps.{Obstacle, WaitedLong, StoreLate, ForeignCame, LeftAlone, Unseen, Step, Opened, NotOpened, Fed, Polled, Stopped, Settled, Gave, Closed, LeftLine, Broke, Ticked, Loaded, Linked, Asked, Greeted, Spelled, Late, CameLate, Lost, Noted}
 use Rattle.serve_links.specs.Called.{call_in, due_in, clock_in, given_in, IsGivenOnce}
 
 -- a call that a server was asked: its number, in which dialect it was asked, its ask, and since when its time counts
@@ -43,7 +43,8 @@ standing_after (Some causes.NoRoom) = Ending
 standing_after (Some causes.VainReads) = Ending
 
 -- of a server's connection: how it stands, what was to be sent over it, which bytes that came over it told something, the calls that are out there, the one that was asked first in front, before them those that were late, which have
--- failed, and whose answers are still to come first; what the server was asked first, if it is still to say all that it says to that, before it answers any call, in which dialect calls are asked there from now on
+-- failed, and whose answers are still to come first; what the server was asked first, if it is still to say all that it says to that, before it answers any call, in which dialect calls are asked there from now on; and
+-- how many of the server's connections in a row were given up since a call of it was answered that was out there
 pub record Talk : Type 0 where
   pub stands : Standing
   pub sent : List ℕ
@@ -52,6 +53,7 @@ pub record Talk : Type 0 where
   pub late : List SaidAsk
   pub awaits : Option Greeting
   pub dialect : Dialect
+  pub failed : ℕ
 
 -- without the first
 abbrev pub behind : List SaidAsk → List SaidAsk
@@ -65,11 +67,11 @@ first_of_asks (ask ∷ asks) = ask ∷ []
 
 -- where there was no connection yet
 abbrev pub no_talk : Talk
-no_talk = record { stands = Apart; sent = []; told = []; out = []; late = []; awaits = None; dialect = Classic }
+no_talk = record { stands = Apart; sent = []; told = []; out = []; late = []; awaits = None; dialect = Classic; failed = 0 }
 
--- a new connection, to a server that is asked this first
-abbrev pub first_talk : Greeting → Talk
-first_talk greeting = record { stands = InUse; sent = first_asked_of greeting; told = []; out = []; late = []; awaits = awaits_first greeting; dialect = first_dialect greeting.dialect }
+-- a new connection, to a server that is asked this first, and of which so many in a row were given up
+abbrev pub first_talk : Greeting → (failed : ℕ) → Talk
+first_talk greeting failed = record { stands = InUse; sent = first_asked_of greeting; told = []; out = []; late = []; awaits = awaits_first greeting; dialect = first_dialect greeting.dialect; failed = failed }
 
 -- one more call is asked in its dialect
 abbrev pub with_ask : ℕ → Dialect → Ask → (since : ℕ) → Talk → Talk
@@ -79,9 +81,9 @@ with_ask number dialect ask since talk = record talk { sent = talk.sent ++ spell
 abbrev pub greeted : Dialect → List ℕ → Talk → Talk
 greeted dialect bytes talk = record talk { told = talk.told ++ bytes; awaits = None; dialect = dialect }
 
--- the first call is out no more
+-- the first call is out no more: its server answers
 abbrev pub with_first_answer : List ℕ → Talk → Talk
-with_first_answer bytes talk = record talk { told = talk.told ++ bytes; out = behind talk.out }
+with_first_answer bytes talk = record talk { told = talk.told ++ bytes; out = behind talk.out; failed = 0 }
 
 -- the first call is late: it keeps its place
 abbrev pub turned_late : Talk → Talk
@@ -91,13 +93,19 @@ turned_late talk = record talk { out = behind talk.out; late = talk.late ++ firs
 abbrev pub with_late : List ℕ → Talk → Talk
 with_late bytes talk = record talk { told = talk.told ++ bytes; late = behind talk.late }
 
--- it was given up: no call is out there any more, and no answer is awaited
+-- how many in a row were given up once one is: one more, but where it was given up before, and its end was awaited
+abbrev pub failed_after : Standing → ℕ → ℕ
+failed_after Apart failed = failed
+failed_after InUse failed = suc failed
+failed_after Ending failed = failed
+
+-- it was given up: no call is out there any more, no answer is awaited, and that is one more in a row
 abbrev pub given_up : Option Cause → Talk → Talk
-given_up why talk = record talk { stands = standing_after why; out = []; late = []; awaits = None }
+given_up why talk = record talk { stands = standing_after why; out = []; late = []; awaits = None; failed = failed_after talk.stands talk.failed }
 
 -- what a step adds to what was said over the connection of the server of this number
 abbrev pub talk_after : Step → ℕ → Talk → Talk
-talk_after (Linked at dialect) i talk = if nat_eq at i then first_talk dialect else talk
+talk_after (Linked at dialect) i talk = if nat_eq at i then first_talk dialect talk.failed else talk
 talk_after (Asked at number dialect ask since) i talk = if nat_eq at i then with_ask number dialect ask since talk else talk
 talk_after (Greeted at dialect bytes) i talk = if nat_eq at i then greeted dialect bytes talk else talk
 talk_after (Noted at obstacle) i talk = talk
@@ -245,11 +253,9 @@ abbrev pub AreGivenUp : List Step → List SaidAsk → Type 0
 AreGivenUp steps [] = Unit {0}
 AreGivenUp steps (said ∷ others) = WasGivenUp said.0 steps × AreGivenUp steps others
 
--- what nothing shows keeps any call from being sent, but that there was no room for what came: by that a connection is given up
+-- refused memory keeps any call from being sent, but not that there was no room for what came: by that a connection is given up
 abbrev pub KeepsBack : Unshown → Type 0
 KeepsBack unshown.NoMemory = Unit {0}
-KeepsBack unshown.Retired = Unit {0}
-KeepsBack unshown.LeftAlone = Unit {0}
 KeepsBack unshown.NoRoom = ⊥
 
 -- an obstacle keeps the call of this number from being sent
@@ -257,6 +263,7 @@ abbrev pub IsFor : ℕ → Obstacle → Type 0
 IsFor n (WaitedLong number limit) = number ≡ n
 IsFor n (StoreLate limit) = Unit {0}
 IsFor n ForeignCame = Unit {0}
+IsFor n (LeftAlone limit) = Unit {0}
 IsFor n (Unseen why) = KeepsBack why
 
 -- in the last step an obstacle was noted of this server that keeps the call of this number from being sent
@@ -281,15 +288,13 @@ pub record IsUnsent (number : ℕ) (steps : List Step) : Type 0 where
 abbrev pub FailsFor : ℕ → List Step → Type 0
 FailsFor number steps = IsUnsent number steps ⊎ WasGivenUp number steps ⊎ WasLate number steps
 
--- an obstacle may be noted of this server: the call is still to be asked and was given out longer before than it may wait; a store is the first of the calls that are out there, and one of them has taken longer than it may; and where a server is left alone, another call tries it
+-- an obstacle may be noted of this server: the call is still to be asked and was given out longer before than it may wait; a store is the first of the calls that are out there, and one of them has taken longer than it may; and a server is left alone that had as many connections in a row given up as are allowed since it answered a call, while another call tries it
 abbrev pub IsTold : Obstacle → (at : ℕ) → List Step → Type 0
 IsTold (WaitedLong number limit) at past = given_in past number + limit < clock_in past
 IsTold (StoreLate limit) at past = IsStoreFirst (talk_in past at).out × HasWaited limit (clock_in past) (talk_in past at).out
 IsTold ForeignCame at past = Unit {0}
-IsTold (Unseen unshown.LeftAlone) at past = (talk_in past at).out ≢ []
-IsTold (Unseen unshown.NoMemory) at past = Unit {0}
-IsTold (Unseen unshown.Retired) at past = Unit {0}
-IsTold (Unseen unshown.NoRoom) at past = Unit {0}
+IsTold (LeftAlone limit) at past = (limit ≤ (talk_in past at).failed) × ((talk_in past at).out ≢ [])
+IsTold (Unseen why) at past = Unit {0}
 
 -- the core has a call of this number out, and no server has it, or has it any more
 pub record MaySettle (number : ℕ) (steps : List Step) : Type 0 where
@@ -302,10 +307,10 @@ abbrev pub ComesBy : ℕ → Outcome → List Step → Type 0
 ComesBy number (Answered answer) past = IsJustSpelled number answer past
 ComesBy number Failed past = FailsFor number past
 
--- after these steps this one may come: a connection is begun where none is there, also none whose end is awaited; a server is asked what the core gave out for it last under that number, once, in a dialect that it speaks, its time counting from then or later, and neither while late answers are still to come nor before it said that it emptied itself where it is to do that first; tells of its dialects where it is asked for that, and then answers its calls in
+-- after these steps this one may come: a connection is begun where none is there, also none whose end is awaited; over one that is in use a server is asked what the core gave out for it last under that number, once, in a dialect that it speaks, its time counting from then or later, and neither while late answers are still to come nor before it said that it emptied itself where it is to do that first; tells of its dialects where it is asked for that, and then answers its calls in
 -- their order, those that are late too, whose answers settle nothing; the first of those that are out is late once one of them, or of those that were late before it, has waited too long; a call is settled that no server has, by its answer, or as it failed for a reason; an obstacle is noted that is there; a connection is given up for want of room where that was just noted; and none is given out while one of its number is out
 abbrev pub MayComeNext : Step → List Step → Type 0
-MayComeNext (Asked at number dialect ask since) past = MayBeAsked past number at dialect ask × (due_in past number ≡ Some (at, ask)) × ((talk_in past at).late ≡ []) × (awaits_flush (talk_in past at).awaits ≡ false) × (given_in past number ≤ since)
+MayComeNext (Asked at number dialect ask since) past = MayBeAsked past number at dialect ask × (due_in past number ≡ Some (at, ask)) × ((talk_in past at).late ≡ []) × (awaits_flush (talk_in past at).awaits ≡ false) × (given_in past number ≤ since) × ((talk_in past at).stands ≡ InUse)
 MayComeNext (Greeted at dialect bytes) past = GreetsAwaited (talk_in past at).awaits dialect bytes
 MayComeNext (Noted at obstacle) past = IsTold obstacle at past
 MayComeNext (Late at number limit now) past = IsFirstOut number (talk_in past at) × HasWaited limit now ((talk_in past at).late ++ (talk_in past at).out)

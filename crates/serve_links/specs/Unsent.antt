@@ -28,20 +28,25 @@ IsStoreLate link = (awaits_store link ≡ true) × HasWaited link.limits.call_ms
 abbrev pub IsServerLate : Link → Type 0
 IsServerLate link = (link.late.items ≢ []) ⊎ IsStoreLate link
 
--- so many connections failed in a row as are allowed, and either it isn't tried again yet, or a call tries it
-abbrev pub IsLeftAlone : (now : ℕ) → Link → Type 0
-IsLeftAlone now link = (link.limits.fail_limit ≤ link.failures) × ((now < link.held_until) ⊎ (link.calls.sent.items ≢ []))
+-- it failed as many times in a row as is allowed, and isn't tried again yet
+abbrev pub IsHeld : (now : ℕ) → Link → Type 0
+IsHeld now link = (link.limits.fail_limit ≤ link.failures) × (now < link.held_until)
 
--- no connection is begun: its server is late, the end of a connection is awaited, no call goes out any more, or it is left alone
+-- as many of its connections in a row were given up as is allowed, and a call tries it
+abbrev pub IsLeftAlone : Link → Type 0
+IsLeftAlone link = (link.limits.fail_limit ≤ link.lost) × (link.calls.sent.items ≢ [])
+
+-- no connection is begun: its server is late, the end of a connection is awaited, no call goes out any more, or it isn't tried again yet
 abbrev pub HoldsBack : (now : ℕ) → Link → Type 0
-HoldsBack now link = IsServerLate link ⊎ IsSome link.draining ⊎ (is_retired link ≡ true) ⊎ IsLeftAlone now link
+HoldsBack now link = IsServerLate link ⊎ IsSome link.draining ⊎ (is_retired link ≡ true) ⊎ IsHeld now link
 
--- calls may go out: no late answers are to come, it is not retired, and it isn't left alone; and without a connection one may be begun, as no end of one is awaited
+-- calls may go out, or wait for that: no late answers are to come, and it isn't left alone; and without a connection one may be begun, as no end of one is awaited, it is not retired, and may be tried
 pub record TakesCalls (now : ℕ) (link : Link) : Type 0 where
   pub late : link.late.items ≡ []
   pub draining : link.conn ≡ None → link.draining ≡ None
-  pub retired : is_retired link ≡ false
-  pub tried : (link.failures < link.limits.fail_limit) ⊎ ((link.conn ≡ None → link.held_until ≤ now) × (link.calls.sent.items ≡ []))
+  pub retired : link.conn ≡ None → is_retired link ≡ false
+  pub tried : link.conn ≡ None → (link.failures < link.limits.fail_limit) ⊎ (link.held_until ≤ now)
+  pub alone : IsSome link.conn → (link.lost < link.limits.fail_limit) ⊎ (link.calls.sent.items ≡ [])
 
 -- this holds of the first of these calls, if there is one
 abbrev pub FirstIs : (SentCall → Type 0) → List SentCall → Type 0
@@ -52,7 +57,7 @@ FirstIs Is (call ∷ calls) = Is call
 abbrev pub WaitsTooLong : (pace : ℕ) → Link → Type 0
 WaitsTooLong pace link = (link.conn ≡ None) ⊎ IsServerLate link ⊎ (FirstIs (λ call. call.paced + link.limits.call_ms < pace) link.waiting.items × (link.waiting.items ≢ []))
 
--- a call that was given out by this time isn't sent over a link for this reason, when a clock shows this
+-- a call that was given out by this time isn't sent over a link for this reason, which isn't that memory was refused, when a clock shows this
 abbrev pub IsRefused : Refusal → (since now : ℕ) → Link → Type 0
 IsRefused refusals.NoConnection since now link = link.conn ≡ None
 IsRefused refusals.ServerLate since now link = IsSome link.conn × (link.late.items ≢ [])
@@ -60,12 +65,14 @@ IsRefused refusals.StoreLate since now link = IsSome link.conn × (awaits_store 
 IsRefused refusals.Emptying since now link = IsSome link.conn × (awaits_flush link.awaits_dialect ≡ true)
 IsRefused refusals.ForeignCame since now link = IsSome link.conn × LineIsForeign link
 IsRefused refusals.WaitedLong since now link = since + link.limits.call_ms < now
-IsRefused (refusals.Unseen unshown.NoMemory) since now link = Unit {0}
-IsRefused (refusals.Unseen unshown.Retired) since now link = is_retired link ≡ true
-IsRefused (refusals.Unseen unshown.LeftAlone) since now link = IsSome link.conn × (link.limits.fail_limit ≤ link.failures) × (link.calls.sent.items ≢ [])
-IsRefused (refusals.Unseen unshown.NoRoom) since now link = ⊥
+IsRefused refusals.LeftAlone since now link = IsSome link.conn × IsLeftAlone link
+IsRefused refusals.NoMemory since now link = ⊥
 
--- a call isn't sent for this reason: what nothing shows is counted
+-- it isn't sent for such a reason, or as memory was refused for it
+abbrev pub IsHindered : Refusal → (since now : ℕ) → Link → Type 0
+IsHindered why since now link = (why ≡ refusals.NoMemory) ⊎ IsRefused why since now link
+
+-- a call isn't sent for this reason: refused memory, which nothing shows, is counted
 abbrev pub NotesRefusal : Refusal → ServedCore → ServedCore → Type 0
 NotesRefusal refusals.NoConnection old new = new ≡ old
 NotesRefusal refusals.ServerLate old new = new ≡ old
@@ -73,7 +80,8 @@ NotesRefusal refusals.StoreLate old new = new ≡ old
 NotesRefusal refusals.Emptying old new = new ≡ old
 NotesRefusal refusals.ForeignCame old new = new ≡ old
 NotesRefusal refusals.WaitedLong old new = new ≡ old
-NotesRefusal (refusals.Unseen why) old new = Notes (Unseen why) old new
+NotesRefusal refusals.LeftAlone old new = new ≡ old
+NotesRefusal refusals.NoMemory old new = Notes (Unseen unshown.NoMemory) old new
 
 -- a link is given up for this cause: what nothing shows is counted
 abbrev pub NotesCause : Cause → ServedCore → ServedCore → Type 0

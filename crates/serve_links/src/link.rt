@@ -1,6 +1,6 @@
 //! One server's link: its connection, if it has one, and the calls that are out.
 
-ghost use Rattle.std.specs.Prelude.{◌≡◌, ℕ, ◌≢◌, ◌⊎◌, not, true, IfSome, IsSome, ◌+◌, ◌<◌, ◌++◌, false, ◌∷◌, [], None, length, MatchOption, IfOk, IfErr, OnOk, OnErr, option_map};
+ghost use Rattle.std.specs.Prelude.{◌≡◌, ℕ, ◌≢◌, ◌⊎◌, not, true, IfSome, IsSome, ◌+◌, ◌<◌, ◌≤◌, ◌++◌, false, ◌∷◌, [], None, length, MatchOption, IfOk, IfErr, OnOk, OnErr, option_map};
 ghost use Rattle.mc_types.specs.declared.ask.Dialect.TheVariants.{Classic};
 ghost use Rattle.serve_links.specs.Links.{IsDown, CallIsTaken, vain_cause};
 ghost use Rattle.serve_links.specs.Calls.{stores_first};
@@ -8,7 +8,7 @@ ghost use Rattle.serve_links.specs.Lateness.{HasLate, awaits_store, AwaitsLate, 
 ghost use Rattle.wire_parts.specs.Sending.{bytes_of};
 ghost use Rattle.serve_links.specs.Dialects.{awaits_flush};
 ghost use Rattle.serve_links.specs.Talks.{HasWaited};
-ghost use Rattle.serve_links.specs.Unsent.{IsStoreLate, IsServerLate, HoldsBack, TakesCalls, WaitsTooLong, IsRefused, FirstIs};
+ghost use Rattle.serve_links.specs.Unsent.{IsStoreLate, IsServerLate, IsHeld, IsLeftAlone, HoldsBack, TakesCalls, WaitsTooLong, IsRefused, FirstIs};
 ghost use Rattle.serve_links.specs.Epochs.{is_retired, with_retired, LinkIsQuiet};
 ghost use Rattle.serve_links.specs.Lines.{dialect_asked, flush_asked, first_asked_of, asks_dialect, awaits_first, first_dialect, greeting_of, KeepsLines, HasNewEnd, OpensLink, Learns, ended_by_read, DrainsOne, DrainsBy};
 ghost use Rattle.serve_links.specs.Story.{said_asks, line_of, LineIsForeign};
@@ -20,7 +20,6 @@ use crate::news::{Cause, LinkNews};
 use crate::refusal::{NotSent, Refusal};
 use crate::settings::{Greeting, LinkLimits, ServerDialect, Settings};
 use crate::tally::LinkTally;
-use core_accepted::Unshown;
 use mc_types::Dialect;
 use serve_clients::Clients;
 use serve_wire::conn::{Conn, Got, Limits};
@@ -230,8 +229,10 @@ pub struct Link {
     pub is_connected: bool,
     /// When the system was last asked for what has come over it, though it told of nothing, in milliseconds.
     pub asked_at: u64,
-    /// How many times in a row it failed since its server last answered.
+    /// How many times in a row it failed since its server last answered: also where no connection could be begun.
     failures: u32,
+    /// How many of its connections in a row were given up since its server last answered.
+    lost: u32,
     /// What has become of it so far.
     pub tally: LinkTally,
     /// Where those are as many as are allowed: until then its calls fail at once.
@@ -270,6 +271,7 @@ impl Link {
         ensures flushes { IfOk result (λ link. link.flushes ≡ flushes) }
         ensures limits { IfOk result (λ link. link.limits ≡ limits) }
         ensures opened { IfOk result (λ link. link.opened ≡ 0) }
+        ensures lost { IfOk result (λ link. link.lost ≡ 0) }
     {
         let text = text.to_vec(alloc)?;
         Ok(Link::of(alloc, text, flushes, limits))
@@ -285,6 +287,7 @@ impl Link {
         ensures flushes { result.flushes ≡ flushes }
         ensures limits { result.limits ≡ limits }
         ensures opened { result.opened ≡ 0 }
+        ensures lost { result.lost ≡ 0 }
     {
         Link {
             text,
@@ -303,6 +306,7 @@ impl Link {
             is_connected: false,
             asked_at: 0,
             failures: 0,
+            lost: 0,
             tally: LinkTally::new(),
             held_until: 0,
             vain_reads: 0,
@@ -404,7 +408,7 @@ impl Link {
         self.flushes = true;
     }
 
-    /// From now on its calls fail at once, or they do no longer.
+    /// From now on no call goes out over it, or some may again: while it is retired they wait where it has a connection, and fail at once where it has none.
     pub fn retire(&mut self, is_retired: bool)
         ensures retired { self.new ≡ with_retired is_retired self.old }
         ensures line { line_of self.new ≡ line_of self.old }
@@ -421,7 +425,8 @@ impl Link {
 
     /// Whether no call is out or waits, none is late, and no end of a connection is awaited.
     pub fn is_quiet(&self) -> bool
-        ensures { result ≡ true → LinkIsQuiet self.now }
+        ensures quiet { result ≡ true → LinkIsQuiet self.now }
+        ensures busy { result ≡ false → LinkIsQuiet self.now → ⊥ }
     {
         self.calls.is_empty()
             && self.waiting.is_empty()
@@ -439,9 +444,11 @@ impl Link {
         }
     }
 
-    // Whether it takes calls: its server needn't empty itself first, it has places, and no backlog.
-    fn takes_calls(&self, places: usize) -> bool {
-        !self.awaits_flush() && self.calls.len() < places && !self.has_backlog()
+    // Whether it takes calls: it isn't retired, its server needn't empty itself first, it has places, and no backlog.
+    fn takes_calls(&self, places: usize) -> bool
+        ensures { is_retired self.now ≡ true → result ≡ false }
+    {
+        !self.is_retired && !self.awaits_flush() && self.calls.len() < places && !self.has_backlog()
     }
 
     // Whether the call that has waited longest is bulk, and has no room.
@@ -452,8 +459,11 @@ impl Link {
         }
     }
 
-    /// Whether a further call, of whose answer so many bytes are expected, has to wait: others than bulk ones pass those that wait.
-    pub fn is_full(&self, places: usize, bulk: usize) -> bool {
+    /// Whether a further call, of whose answer so many bytes are expected, has to wait: others than bulk ones pass those that wait. All have to
+    /// while it is retired.
+    pub fn is_full(&self, places: usize, bulk: usize) -> bool
+        ensures { is_retired self.now ≡ true → result ≡ true }
+    {
         if !self.takes_calls(places) || !self.calls.has_room_for(bulk) {
             return true;
         }
@@ -503,9 +513,10 @@ impl Link {
         None
     }
 
-    /// Of the calls that wait the first that may go out now.
+    /// Of the calls that wait the first that may go out now: none while it is retired.
     #[tactic(auto, using(crate::proofs::Taking::taken))]
     pub fn next_to_go(&mut self, places: usize, clients: &Clients) -> Option<SentCall>
+        ensures retired { is_retired self.old ≡ true → result ≡ None }
         ensures waiting { MatchOption result (self.new.waiting.items ≡ self.old.waiting.items) (λ call. CallIsTaken self.old.waiting.items call self.new.waiting.items) }
         ensures rest { self.new ≡ record self.old { waiting = self.new.waiting } }
     {
@@ -731,12 +742,11 @@ impl Link {
         self.stand()
     }
 
-    /// Why a call fails at once, if it does. Without a connection none is begun while the server is late, the end of one is awaited, no call goes out any more, or the server failed too many
-    /// times in a row and isn't to be tried yet. With one none goes out while the server is late, or no call does any more, or it failed that often and a call tries it.
+    /// Why a call fails at once, if it does: never as memory was refused. Without a connection none is begun while the server is late, the end of one is awaited, no call goes out any more,
+    /// or the server failed too many times in a row and isn't to be tried yet. With one none goes out while the server is late, or as many connections in a row were given up, and a call tries it.
     pub fn refusal(&self, now: u64) -> Option<Refusal>
         ensures refused { IfSome result (λ why. (since : ℕ) → IsRefused why since now self.now) }
         ensures free { result ≡ None → TakesCalls now self.now }
-        ensures retired { is_retired self.now ≡ true → IsSome result }
     {
         if self.conn.is_none() {
             return if self.is_held_back(now) {
@@ -746,7 +756,7 @@ impl Link {
             };
         }
         match self.line_refusal(now) {
-            None => self.unseen_refusal(),
+            None if self.is_left_alone() => Some(Refusal::LeftAlone),
             refusal => refusal,
         }
     }
@@ -754,38 +764,42 @@ impl Link {
     // Whether no connection is begun for now.
     fn is_held_back(&self, now: u64) -> bool
         ensures back { result ≡ true → HoldsBack now self.now }
-        ensures free { result ≡ false → TakesCalls now self.now }
+        ensures free { self.now.conn ≡ None → result ≡ false → TakesCalls now self.now }
         ensures retired { is_retired self.now ≡ true → result ≡ true }
     {
         if self.is_late() || self.draining.is_some() || self.is_retired {
             return true;
         }
-        self.limits.fail_limit <= self.failures && (now < self.held_until || !self.calls.is_empty())
+        self.is_held(now)
     }
 
-    // Why no call goes out over a connection though nothing shows it, if none does: it is retired, or its server is left alone, as it failed too many times in a row and a call tries it.
-    fn unseen_refusal(&self) -> Option<Refusal>
-        ensures refused { IsSome self.now.conn → IfSome result (λ why. (since now : ℕ) → IsRefused why since now self.now) }
-        ensures free { result ≡ None → (is_retired self.now ≡ false) × ((self.now.failures < self.now.limits.fail_limit) ⊎ (self.now.calls.sent.items ≡ [])) }
-        ensures retired { is_retired self.now ≡ true → IsSome result }
+    // Whether its server failed as many times in a row as is allowed, and isn't tried again yet.
+    fn is_held(&self, now: u64) -> bool
+        ensures held { result ≡ true → IsHeld now self.now }
+        ensures free { result ≡ false → (self.now.failures < self.now.limits.fail_limit) ⊎ (self.now.held_until ≤ now) }
     {
-        if self.is_retired {
-            return Some(Refusal::Unseen(Unshown::Retired));
-        }
-        if self.limits.fail_limit <= self.failures && !self.calls.is_empty() {
-            return Some(Refusal::Unseen(Unshown::LeftAlone));
-        }
-        None
+        self.limits.fail_limit <= self.failures && now < self.held_until
+    }
+
+    // Whether its server is left alone, as so many of its connections in a row were given up as are allowed, and a call tries it.
+    fn is_left_alone(&self) -> bool
+        ensures alone { result ≡ true → IsLeftAlone self.now }
+        ensures free { result ≡ false → (self.now.lost < self.now.limits.fail_limit) ⊎ (self.now.calls.sent.items ≡ []) }
+    {
+        self.limits.fail_limit <= self.lost && !self.calls.is_empty()
     }
 
     /// A read brought whole answers, or none. Whether it has failed by that: where calls are out, and so many reads in a row brought none. That its
     /// server has answered is news where it was down.
     pub fn has_read(&mut self, has_settled: bool, polls: Option<u32>) -> bool
         ensures failed { result ≡ true → self.new.calls.sent.items ≢ [] }
-        ensures rest { self.new ≡ record self.old { failures = self.new.failures; vain_reads = self.new.vain_reads; news = self.new.news; was_down = self.new.was_down } }
+        ensures answered { has_settled ≡ true → self.new.lost ≡ 0 }
+        ensures vain { has_settled ≡ false → self.new.lost ≡ self.old.lost }
+        ensures rest { self.new ≡ record self.old { failures = self.new.failures; lost = self.new.lost; vain_reads = self.new.vain_reads; news = self.new.news; was_down = self.new.was_down } }
     {
         if has_settled {
             self.failures = 0;
+            self.lost = 0;
             self.vain_reads = 0;
             self.tell_back();
             return false;
@@ -956,9 +970,10 @@ impl Link {
 
     /// Its server has answered, after calls were late, which is news.
     pub fn come_back(&mut self)
-        ensures { self.new ≡ record self.old { failures = self.new.failures; vain_reads = self.new.vain_reads; awaited = self.new.awaited; news = self.new.news; was_down = self.new.was_down } }
+        ensures { self.new ≡ record self.old { failures = self.new.failures; lost = 0; vain_reads = self.new.vain_reads; awaited = self.new.awaited; news = self.new.news; was_down = self.new.was_down } }
     {
         self.failures = 0;
+        self.lost = 0;
         self.vain_reads = 0;
         self.awaited = None;
         self.tell_back();
@@ -984,6 +999,7 @@ impl Link {
         ensures calls { self.new.calls ≡ self.old.calls }
         ensures late { self.new.late.items ≡ [] }
         ensures waiting { self.new.waiting ≡ self.old.waiting }
+        ensures lost { MatchOption self.old.conn (self.new.lost ≡ self.old.lost) (λ _. self.new.lost ≤ self.old.lost + 1) }
     {
         let number = self.let_go();
         self.note_failed(cause, now);
@@ -994,9 +1010,11 @@ impl Link {
     fn let_go(&mut self) -> Option<usize>
         ensures number { result ≡ option_map (λ x. x.number) self.old.conn }
         ensures draining { MatchOption self.old.conn (self.new.draining ≡ self.old.draining) (λ _. self.new.draining ≡ None) }
-        ensures rest { self.new ≡ record self.old { conn = None; draining = self.new.draining } }
+        ensures lost { MatchOption self.old.conn (self.new.lost ≡ self.old.lost) (λ _. self.new.lost ≤ self.old.lost + 1) }
+        ensures rest { self.new ≡ record self.old { conn = None; draining = self.new.draining; lost = self.new.lost } }
     {
         let conn = self.conn.take()?;
+        self.lost = self.lost.saturating_add(1);
         self.draining = None;
         Some(conn.number)
     }
@@ -1012,6 +1030,7 @@ impl Link {
         ensures calls { self.new.calls ≡ self.old.calls }
         ensures late { self.new.late.items ≡ [] }
         ensures waiting { self.new.waiting ≡ self.old.waiting }
+        ensures lost { MatchOption self.old.conn (self.new.lost ≡ self.old.lost) (λ _. self.new.lost ≤ self.old.lost + 1) }
     {
         let number = self.hold_back();
         self.late_since = now;
@@ -1024,9 +1043,11 @@ impl Link {
         ensures number { result ≡ option_map (λ x. x.number) self.old.conn }
         ensures drains { conn_of self.new ≡ conn_of self.old }
         ensures draining { self.old.conn ≡ None → self.new.draining ≡ self.old.draining }
-        ensures rest { self.new ≡ record self.old { conn = None; draining = self.new.draining } }
+        ensures lost { MatchOption self.old.conn (self.new.lost ≡ self.old.lost) (λ _. self.new.lost ≤ self.old.lost + 1) }
+        ensures rest { self.new ≡ record self.old { conn = None; draining = self.new.draining; lost = self.new.lost } }
     {
         let conn = self.conn.take()?;
+        self.lost = self.lost.saturating_add(1);
         let number = conn.number;
         self.draining = Some(emptied(conn));
         Some(number)
@@ -1083,6 +1104,7 @@ impl Link {
         ensures calls { self.new.calls ≡ self.old.calls }
         ensures late { self.new.late.items ≡ [] }
         ensures waiting { self.new.waiting ≡ self.old.waiting }
+        ensures lost { self.new.lost ≡ self.old.lost }
     {
         self.late.clear();
         let cause = if self.is_connected {

@@ -1,6 +1,6 @@
 //! The outcomes of a link's calls, for the core and the clients: answers settle them, or they fail.
 
-ghost use Rattle.std.specs.Prelude.{◌≡◌, ◌≢◌, ◌⊎◌, ℕ, List, true, ◌++◌, [], drop, None, Some, IfSome};
+ghost use Rattle.std.specs.Prelude.{◌≡◌, ◌≢◌, ◌⊎◌, ◌≤◌, ℕ, List, length, true, false, ◌++◌, [], drop, None, Some, IfSome};
 ghost use Rattle.serve_wire.specs.Ends.{HoldsAnew};
 ghost use Rattle.serve_clients.specs.Agrees.{KeepsEnds};
 ghost use Rattle.serve_wire.specs.Events.{WireEvent, time};
@@ -72,6 +72,7 @@ pub fn fail_all(link: &mut Link, core: &mut ServedCore, clients: &mut Clients)
     ensures draining { link.new.draining ≡ link.old.draining }
     ensures text { link.new.text ≡ link.old.text }
     ensures limits { link.new.limits ≡ link.old.limits }
+    ensures lost { link.new.lost ≡ link.old.lost }
     ensures first { (mid : ServedCore) × FailsTo link.old.calls.sent.items link.new.calls.sent.items core.old mid × FailsTo link.old.waiting.items link.new.waiting.items mid core.new }
     ensures ends { KeepsEnds clients.old clients.new }
 {
@@ -378,7 +379,8 @@ fn stops_for(calls: &mut LinkCalls, conn: &mut Conn) -> Stops
 }
 
 fn told(has_settled: bool, left: Left, held: &[u8]) -> HeldAnswers
-    ensures { result.left ≡ left }
+    ensures left { result.left ≡ left }
+    ensures settled { result.has_settled ≡ has_settled }
 {
     HeldAnswers {
         has_settled,
@@ -414,6 +416,7 @@ pub fn settle_held(
     ensures foreign { result.left ≡ Left.NoAnswer → HoldsForeign calls.new.sent.items conn.new.held.items core.new }
     ensures settled { result.left ≢ Left.NoMemory → SettlesSome calls.old.sent.items conn.old.held.items core.old calls.new.sent.items conn.new.held.items core.new }
     ensures front { SettlesFront calls.old.sent.items conn.old.held.items core.old calls.new.sent.items core.new }
+    ensures none { result.has_settled ≡ false → length calls.old.sent.items ≤ length calls.new.sent.items }
     ensures ends { KeepsEnds clients.old clients.new }
     ensures rest { HoldsAnew conn.old conn.new }
 {

@@ -23,8 +23,10 @@ pub enum Refusal {
     ForeignCame,
     /// The call has waited too long to go out.
     WaitedLong,
-    /// What nothing shows.
-    Unseen(Unshown),
+    /// So many connections in a row were given up as are allowed, and a call that is out there tries the server.
+    LeftAlone,
+    /// Memory was refused for the call.
+    NoMemory,
 }
 
 /// A call that isn't sent, and why.
@@ -34,12 +36,12 @@ pub struct NotSent {
     pub why: Refusal,
 }
 
-/// A call isn't sent for this reason: that is counted, where nothing shows it.
+/// A call isn't sent for this reason: where that is refused memory, which nothing shows, it is counted.
 pub fn note_refusal(core: &mut ServedCore, why: Refusal)
     ensures { NotesRefusal why core.old core.new }
 {
-    if let Refusal::Unseen(unshown) = why {
-        core.note_unshown(unshown)
+    if let Refusal::NoMemory = why {
+        core.note_unshown(Unshown::NoMemory)
     }
 }
 

@@ -1,5 +1,5 @@
 -- Links that come behind those that are there, and ends that begin.
-use Rattle.std.proofs.Common.{◌≡◌, ◌⊎◌, inl, inr, ℕ, zero, suc, false, List, [], ◌∷◌, ◌++◌, take, length, Option, Some, None, refl, sym, ap, ◌∙◌, subst, append_assoc, append-nil}
+use Rattle.std.proofs.Common.{◌≡◌, ◌⊎◌, inl, inr, ℕ, zero, suc, false, List, [], ◌∷◌, ◌++◌, take, length, Option, Some, None, refl, sym, ap, ◌∙◌, subst, append_assoc, append-nil, arith}
 use Rattle.std.specs.Prelude.{slice_get, IfSome, map as each}
 use Rattle.std.specs.Option.{option_map, option_flatten}
 use Rattle.mc_types.specs.declared.ask.Dialect.{Dialect}
@@ -40,7 +40,7 @@ use Rattle.serve_proxy.specs.Beginning.{limits_by, BeginsFresh, BeginsUnchecked}
 use Rattle.serve_proxy.proofs.Conns.{conns_grow}
 use Rattle.serve_proxy.proofs.Going.{stays, agree_told, had_quiet, lines_told, get_line, texts_by_lines}
 use Rattle.serve_proxy.proofs.Staying.{stay_links, stay_limits}
-use Rattle.serve_links.proofs.LinkGoes.{same_line, has_none}
+use Rattle.serve_links.proofs.LinkGoes.{as_tried, same_line, has_none}
 
 -- ---- lines that are added
 
@@ -48,23 +48,24 @@ pub adds_none : (old new : List Link) → new ≡ old → AddsLines old new
 adds_none old new same = ([], ap link_lines same ∙ sym (append-nil (link_lines old)))
 
 -- the line of a link that is down
-down_of : (link : Link) → IsDown link → link.draining ≡ None → link.late.items ≡ [] → link.awaits_dialect ≡ None → link.dialect ≡ Classic → link.opened ≡ 0 → line_of link ≡ down_line (address_and_limits link)
-down_of link down undrained alone off classic unopened =
+down_of : (link : Link) → IsDown link → link.draining ≡ None → link.late.items ≡ [] → link.awaits_dialect ≡ None → link.dialect ≡ Classic → link.opened ≡ 0 → link.lost ≡ 0 → line_of link ≡ down_line (address_and_limits link)
+down_of link down undrained alone off classic unopened kept =
     ap (λ (o : Option Conn). let s : LineState = (server_and_opened link, option_map (λ (x : Conn). (x.number, x.held.items, bytes_of x.unsent)) o, said_asks link.calls.sent.items, link.waiting.items, link.awaits_dialect, link.dialect, said_late link.late.items, drain_of link) in s) down.closed
     ∙ ap (λ (l : List SentCall). let s : LineState = (server_and_opened link, None, said_asks l, link.waiting.items, link.awaits_dialect, link.dialect, said_late link.late.items, drain_of link) in s) down.sent
     ∙ ap (λ (l : List SentCall). let s : LineState = (server_and_opened link, None, [], l, link.awaits_dialect, link.dialect, said_late link.late.items, drain_of link) in s) down.waiting
     ∙ ap (λ (b : Option Greeting). let s : LineState = (server_and_opened link, None, [], [], b, link.dialect, said_late link.late.items, drain_of link) in s) off
     ∙ ap (λ (d : Dialect). let s : LineState = (server_and_opened link, None, [], [], None, d, said_late link.late.items, drain_of link) in s) classic ∙ ap (λ (l : List LateCall). let s : LineState = (server_and_opened link, None, [], [], None, Classic, said_late l, drain_of link) in s) alone
     ∙ ap (λ (o : Option Conn). let s : LineState = (server_and_opened link, None, [], [], None, Classic, [], option_map (λ (x : Conn). x.number) o) in s) undrained
-    ∙ ap (λ (t : ℕ). let s : LineState = ((address_and_limits link, t), None, [], [], None, Classic, [], None) in s) unopened
+    ∙ ap (λ (t : ℕ). let s : LineState = ((address_and_limits link, t, link.lost), None, [], [], None, Classic, [], None) in s) unopened
+    ∙ ap (λ (n : ℕ). let s : LineState = ((address_and_limits link, 0, n), None, [], [], None, Classic, [], None) in s) kept
 
 lines_more : (links : List Link) (link : Link) → link_lines (links ++ link ∷ []) ≡ link_lines links ++ line_of link ∷ []
 lines_more [] link = refl
 lines_more (x ∷ links) link = ap (λ l. line_of x ∷ l) (lines_more links link)
 
 -- one without a connection
-pub adds_one : (old new : List Link) (link : Link) → new ≡ old ++ link ∷ [] → IsDown link → link.draining ≡ None → link.late.items ≡ [] → link.awaits_dialect ≡ None → link.dialect ≡ Classic → link.opened ≡ 0 → AddsLines old new
-adds_one old new link more down undrained alone off classic unopened = (address_and_limits link ∷ [], ap link_lines more ∙ lines_more old link ∙ ap (λ (s : LineState). link_lines old ++ s ∷ []) (down_of link down undrained alone off classic unopened))
+pub adds_one : (old new : List Link) (link : Link) → new ≡ old ++ link ∷ [] → IsDown link → link.draining ≡ None → link.late.items ≡ [] → link.awaits_dialect ≡ None → link.dialect ≡ Classic → link.opened ≡ 0 → link.lost ≡ 0 → AddsLines old new
+adds_one old new link more down undrained alone off classic unopened kept = (address_and_limits link ∷ [], ap link_lines more ∙ lines_more old link ∙ ap (λ (s : LineState). link_lines old ++ s ∷ []) (down_of link down undrained alone off classic unopened kept))
 
 down_both : (xs ys : List (List ℕ × LinkLimits)) → each down_line (xs ++ ys) ≡ each down_line xs ++ each down_line ys
 down_both [] ys = refl
@@ -107,9 +108,9 @@ in_first [] ys at none = refl
 in_first (x ∷ xs) ys zero none = none
 in_first (x ∷ xs) ys (suc at) none = in_first xs ys at none
 
-is_down : (servers : List (List ℕ × LinkLimits)) (k : ℕ) (line : LineState) → slice_get (each down_line servers) k ≡ Some line → (line.1 ≡ None) × (line.3 ≡ []) × (line.2 ≡ []) × (line.7 ≡ None)
+is_down : (servers : List (List ℕ × LinkLimits)) (k : ℕ) (line : LineState) → slice_get (each down_line servers) k ≡ Some line → (line.1 ≡ None) × (line.3 ≡ []) × (line.2 ≡ []) × (line.7 ≡ None) × (line.0.2 ≡ 0)
 is_down [] k line is = absurd (none_some is)
-is_down (server ∷ servers) zero line is = (ap (λ (p : LineState). p.1) (sym (same_some is)), ap (λ (p : LineState). p.3) (sym (same_some is)), ap (λ (p : LineState). p.2) (sym (same_some is)), ap (λ (p : LineState). p.7) (sym (same_some is)))
+is_down (server ∷ servers) zero line is = (ap (λ (p : LineState). p.1) (sym (same_some is)), ap (λ (p : LineState). p.3) (sym (same_some is)), ap (λ (p : LineState). p.2) (sym (same_some is)), ap (λ (p : LineState). p.7) (sym (same_some is)), ap (λ (p : LineState). p.0.2) (sym (same_some is)))
 is_down (server ∷ servers) (suc k) line is = is_down servers k line is
 
 no_conn : (o : Option Conn) → option_map (λ (x : Conn). let e : ℕ × List ℕ × List ℕ = (x.number, x.held.items, bytes_of x.unsent) in e) o ≡ None → o ≡ None
@@ -137,7 +138,7 @@ lines_grow h past ls ls' adds orderly unlinked was at link there = by (in_both (
 
     by : (slice_get (link_lines ls) at ≡ Some (line_of link)) ⊎ ((slice_get (link_lines ls) at ≡ None) × (k : ℕ) × (slice_get (each down_line adds.0) k ≡ Some (line_of link))) → LineAgrees at past h link
     by (inl old) = of_old (slice_get ls at) refl (get_line ls at ∙ old)
-    by (inr new) = let down = is_down adds.0 new.1 (line_of link) new.2 in has_none at past h link (no_conn link.conn down.0) (subst (λ w. MayAllGo past at w) (sym down.1) tt) (subst (λ w. AreDue past at (said_asks w)) (sym down.1) tt) ((unlinked at (none_of ls at new.0)).0, subst (AreGivenUp past) (sym down.2) tt) (subst (Unused h at link.text.items (talk_in past at)) (sym down.3) (unlinked at (none_of ls at new.0)).1) (subst (λ l. AreCalled past at l) (sym down.2) tt)
+    by (inr new) = let down = is_down adds.0 new.1 (line_of link) new.2 in has_none at past h link (no_conn link.conn down.0) (subst (λ w. MayAllGo past at w) (sym down.1) tt) (subst (λ w. AreDue past at (said_asks w)) (sym down.1) tt) ((unlinked at (none_of ls at new.0)).0, subst (AreGivenUp past) (sym down.2) tt) (subst (Unused h at link.text.items (talk_in past at)) (sym down.3) (unlinked at (none_of ls at new.0)).1) (subst (λ l. AreCalled past at l) (sym down.2) tt) (as_tried down.4 refl (omega arith))
 
 abbrev texts_in : List (List ℕ × LinkLimits) → List (List ℕ)
 texts_in servers = each (λ (s : List ℕ × LinkLimits). s.0) servers
@@ -224,10 +225,10 @@ conns_limited any (link ∷ links) zero = refl
 conns_limited any (link ∷ links) (suc at) = conns_limited any links at
 
 to_limited : (any : LinkLimits) (at : ℕ) (past : List Step) (h : List WireEvent) (x : Link) → LineAgrees at past h x → LineAgrees at past h (record x { limits = any })
-to_limited any at past h x a = record { conn = a.conn; goes_on = a.goes_on; waiting = a.waiting; due = a.due; none_out = a.none_out; unused = a.unused; called = a.called }
+to_limited any at past h x a = record { conn = a.conn; goes_on = a.goes_on; waiting = a.waiting; due = a.due; none_out = a.none_out; unused = a.unused; called = a.called; used = a.used; tried = a.tried }
 
 from_limited : (any : LinkLimits) (at : ℕ) (past : List Step) (h : List WireEvent) (x : Link) → LineAgrees at past h (record x { limits = any }) → LineAgrees at past h x
-from_limited any at past h x a = record { conn = a.conn; goes_on = a.goes_on; waiting = a.waiting; due = a.due; none_out = a.none_out; unused = a.unused; called = a.called }
+from_limited any at past h x a = record { conn = a.conn; goes_on = a.goes_on; waiting = a.waiting; due = a.due; none_out = a.none_out; unused = a.unused; called = a.called; used = a.used; tried = a.tried }
 
 -- what agrees does so with other limits
 agrees_to : (any : LinkLimits) (past : List Step) (core : ServedCore) (h : List WireEvent) (cs : Clients) (ls : List Link) → Agrees past (record { core = core; history = h; clients = cs; links = ls }) → Agrees past (record { core = core; history = h; clients = cs; links = with_limits any ls })

@@ -1,5 +1,5 @@
 -- What is done at one link, by what its own functions say, and how that goes on among all.
-use Rattle.std.proofs.Common.{◌≡◌, ℕ, ◌<◌, ◌≤◌, zero, suc, false, List, [], ◌∷◌, ◌++◌, length, get_or, Option, Some, None, Result, Ok, ◌⊎◌, inl, inr, refl, sym, ap, ◌∙◌, subst, arith}
+use Rattle.std.proofs.Common.{◌≡◌, ℕ, ◌<◌, ◌≤◌, zero, suc, Bool, true, false, List, [], ◌∷◌, ◌++◌, length, get_or, Option, Some, None, Result, Ok, ◌⊎◌, inl, inr, refl, sym, ap, ◌∙◌, subst, arith}
 use Rattle.std.proofs.Math.ListN.{set}
 use Rattle.std.specs.Prelude.{MatchOption, IfOk, IfSome, IsSome, slice_get}
 use Rattle.std.specs.Option.{option_map}
@@ -40,19 +40,18 @@ use Rattle.serve_links.specs.Shut.{drain_of}
 use Rattle.serve_links.specs.Talks.{SaidAsk, talk_in, IsCalledIn}
 use Rattle.serve_links.specs.Story.{server_and_opened, LineState, line_of, said_asks, said_late, MayGo, LineAgrees, LineLost, LineGoesFrom, LineGoes, AnEnd, Agrees, AgreesBut, AgreesCalled, AgreesSent, AllGoFrom, fed_in, gave_in}
 use Rattle.serve_links.proofs.LateGoes.{waits_still}
-use Rattle.serve_links.proofs.LinkGoes.{as_lost, line_between, line_settles, line_loses, line_asks, line_waits, line_takes}
+use Rattle.serve_links.proofs.LinkGoes.{StillLost, as_lost, line_between, line_settles, line_loses, line_asks, line_waits, line_takes}
 use Rattle.serve_links.proofs.Story.{go_between}
 use Rattle.serve_links.proofs.Due.{one_due, one_apart}
 use Rattle.serve_links.proofs.Shutting.{shut_quiet}
 use Rattle.serve_proxy.specs.Ends.{link_lines, LinksTake, LinksGive, LineTakes, HoldsAwaited, HoldsAwaitedAt, IsOpenAt, AsksIn}
 use Rattle.serve_proxy.proofs.Going.{line_took, line_gave, had_quiet, numbers_kept, told_kept, set_here}
 use Rattle.std.proofs.lemmas.Option.{slice_get_read}
-use Rattle.core_accepted.specs.declared.tally.Unshown.TheVariants as unshown
 use Rattle.serve_links.specs.declared.refusal.Refusal.{Refusal}
 use Rattle.serve_links.specs.declared.refusal.Refusal.TheVariants as refusals
 use Rattle.serve_links.specs.declared.refusal.NotSent.{NotSent}
-use Rattle.serve_links.specs.Unsent.{IsRefused}
-use Rattle.serve_proxy.specs.Unsent.{IsRefusedAt}
+use Rattle.serve_links.specs.Unsent.{IsRefused, IsHindered}
+use Rattle.serve_proxy.specs.Unsent.{IsRefusedAt, IsHinderedAt}
 use Rattle.serve_proxy.proofs.Staying.{line_lent, none_kept}
 
 -- ---- lines
@@ -66,9 +65,9 @@ same_state c d number held unsent =
     ∙ ap (λ (l : List ℕ). let s : ℕ × List ℕ × List ℕ = (c.number, c.held.items, l) in s) unsent
 
 line_parts :
-    {t t' : (List ℕ × LinkLimits) × ℕ} {o o' : Option (ℕ × List ℕ × List ℕ)} {a a' : List SaidAsk} (w : List SentCall) (b : Option Greeting) (l : Dialect) (e : List SaidAsk) (n : Option ℕ) → t' ≡ t → o' ≡ o → a' ≡ a → ◌≡◌ {A = LineState} (t', o', a', w, b, l, e, n) (t, o, a, w, b, l, e, n)
+    {t t' : (List ℕ × LinkLimits) × ℕ × ℕ} {o o' : Option (ℕ × List ℕ × List ℕ)} {a a' : List SaidAsk} (w : List SentCall) (b : Option Greeting) (l : Dialect) (e : List SaidAsk) (n : Option ℕ) → t' ≡ t → o' ≡ o → a' ≡ a → ◌≡◌ {A = LineState} (t', o', a', w, b, l, e, n) (t, o, a, w, b, l, e, n)
 line_parts {t} {t'} {o} {o'} {a} {a'} w b l e n p q r =
-    ap (λ (x : (List ℕ × LinkLimits) × ℕ). let s : LineState = (x, o', a', w, b, l, e, n) in s) p ∙ ap (λ (x : Option (ℕ × List ℕ × List ℕ)). let s : LineState = (t, x, a', w, b, l, e, n) in s) q
+    ap (λ (x : (List ℕ × LinkLimits) × ℕ × ℕ). let s : LineState = (x, o', a', w, b, l, e, n) in s) p ∙ ap (λ (x : Option (ℕ × List ℕ × List ℕ)). let s : LineState = (t, x, a', w, b, l, e, n) in s) q
     ∙ ap (λ (x : List SaidAsk). let s : LineState = (t, o, x, w, b, l, e, n) in s) r
 
 -- a link whose end and calls are others, with the same in them
@@ -82,6 +81,10 @@ line_same x y c d was is number held unsent sent =
 -- so has one that has the same calls in others
 pub line_calls : (x y : Link) → y ≡ record x { calls = y.calls } → y.calls.sent.items ≡ x.calls.sent.items → line_of y ≡ line_of x
 line_calls x y is sent = ap line_of is ∙ line_parts x.waiting.items x.awaits_dialect x.dialect (said_late x.late.items) (drain_of x) refl refl (ap said_asks sent)
+
+-- and one that has the same but for what tells how often it failed, where it counts as many connections that were given up
+pub line_vain : (x y : Link) → line_of y ≡ line_of (record x { lost = y.lost }) → y.lost ≡ x.lost → line_of y ≡ line_of x
+line_vain x y is same = is ∙ ap (λ n. line_of (record x { lost = n })) same
 
 -- and one for which as many calls wait
 pub line_waiting : (x y : Link) → y ≡ record x { waiting = y.waiting } → y.waiting.items ≡ x.waiting.items → line_of y ≡ line_of x
@@ -173,8 +176,16 @@ given_late links at x y (Some it) within was is did = λ h cs core. line_gave li
 pub refused_set : (why : Refusal) (links : List Link) (at since now : ℕ) (y : Link) → at < length links → IsRefused why since now y → IsRefusedAt why at since now (set links at y)
 refused_set why links at since now y within is = subst (λ o. MatchOption o (why ≡ refusals.NoConnection) (IsRefused why since now)) (sym (set_here links at y within)) is
 
-pub starved_set : (why : Refusal) (links : List Link) (at since now : ℕ) (y : Link) → at < length links → why ≡ refusals.Unseen unshown.NoMemory → IsRefusedAt why at since now (set links at y)
-starved_set why links at since now y within is = subst (λ w. IsRefusedAt w at since now (set links at y)) (sym is) (refused_set (refusals.Unseen unshown.NoMemory) links at since now y within tt)
+pub hindered_set : (why : Refusal) (links : List Link) (at since now : ℕ) (y : Link) → at < length links → IsHindered why since now y → IsHinderedAt why at since now (set links at y)
+hindered_set why links at since now y within is = subst (λ o. MatchOption o (why ≡ refusals.NoConnection) (IsHindered why since now)) (sym (set_here links at y within)) is
+
+-- a call that isn't sent for such a reason is hindered
+pub hindered_at : (why : Refusal) (links : List Link) (at since now : ℕ) → IsRefusedAt why at since now links → IsHinderedAt why at since now links
+hindered_at why links at since now = by (slice_get links at)
+  where
+    by : (o : Option Link) → MatchOption o (why ≡ refusals.NoConnection) (IsRefused why since now) → MatchOption o (why ≡ refusals.NoConnection) (IsHindered why since now)
+    by None none = none
+    by (Some link) is = inr is
 
 pub refused_late : (r : Option NotSent) (links : List Link) (at now : ℕ) (y : Link) → at < length links → IfSome r (λ it. IsRefused it.why it.call.since now y) → IfSome r (λ it. IsRefusedAt it.why at it.call.since now (set links at y))
 refused_late None links at now y within is = tt
@@ -223,20 +234,33 @@ pub line_may_lose :
     {P : ℕ → List Step → List WireEvent → Link → Type 0} {Is : Step → Type 0} {at : ℕ} {a b : ServedCore} {h h' : List WireEvent} {x y : Link} → LineGoesFrom P LineAgrees Is at a h x b h' y → LineGoesFrom P LineLost Is at a h x b h' y
 line_may_lose {at = at} {h' = h'} {y = y} g = line_between (λ past was. was) (λ past was. as_lost at past h' y was) g
 
+-- a link counts no connection that was given up any more, or as many as it did, and as many calls are out there as were
+abbrev pub AnswersTried : Link → Link → List SentCall → Type 0
+AnswersTried x y sent = (y.lost ≡ 0) ⊎ ((y.lost ≡ x.lost) × (length x.calls.sent.items ≤ length sent))
+
+still_tried : (x y : Link) (sent : List SentCall) → y.calls.sent.items ≡ sent → AnswersTried x y sent → StillLost x y
+still_tried x y sent same tried = subst (AnswersTried x y) (sym same) tried
+
+-- by whether something whole was said
+pub answers_tried :
+    (x y : Link) (sent : List SentCall) (said settled : Bool) → (said ≡ true → y.lost ≡ 0) → (said ≡ false → y.lost ≡ x.lost) → (said ≡ false → settled ≡ false) → (settled ≡ false → length x.calls.sent.items ≤ length sent) → AnswersTried x y sent
+answers_tried x y sent true settled none same any out = inl (none refl)
+answers_tried x y sent false settled none same any out = inr (same refl, out (any refl))
+
 -- answers settled calls, and what is left is held
 pub settled :
-    {at : ℕ} {core core' : ServedCore} {h : List WireEvent} (x y : Link) (c d : Conn) (sent : List SentCall) → x.conn ≡ Some c → x.awaits_dialect ≡ None → x.late.items ≡ [] → y.conn ≡ Some d → server_and_opened y ≡ server_and_opened x → y.waiting.items ≡ x.waiting.items
+    {at : ℕ} {core core' : ServedCore} {h : List WireEvent} (x y : Link) (c d : Conn) (sent : List SentCall) → x.conn ≡ Some c → x.awaits_dialect ≡ None → x.late.items ≡ [] → y.conn ≡ Some d → server_and_opened y ≡ server_and_opened (record x { lost = y.lost }) → AnswersTried x y sent → y.waiting.items ≡ x.waiting.items
     → y.awaits_dialect ≡ x.awaits_dialect → y.dialect ≡ x.dialect → y.late.items ≡ x.late.items → y.calls.sent.items ≡ sent → HoldsAnew c d → SettlesSome x.calls.sent.items c.held.items core sent d.held.items core' → LineGoes IsOfTurn at core h x core' h y
-settled {core = core} {core' = core'} x y c d sent was off alone is place waiting awaits speaks late same holds s =
-    line_settles x y c d was is off alone place waiting awaits speaks late (ap (λ (z : Conn). z.number) holds) (ap (λ (z : Conn). bytes_of z.unsent) holds)
+settled {core = core} {core' = core'} x y c d sent was off alone is place tried waiting awaits speaks late same holds s =
+    line_settles x y c d was is off alone place (still_tried x y sent same tried) waiting awaits speaks late (ap (λ (z : Conn). z.number) holds) (ap (λ (z : Conn). bytes_of z.unsent) holds)
     (subst (λ (l : List SentCall). SettlesSome x.calls.sent.items c.held.items core l d.held.items core') (sym same) s)
 
 -- or may be lost
 pub settled_some :
-    {at : ℕ} {core core' : ServedCore} {h : List WireEvent} (x y : Link) (c d : Conn) (sent : List SentCall) → x.conn ≡ Some c → x.awaits_dialect ≡ None → x.late.items ≡ [] → y.conn ≡ Some d → server_and_opened y ≡ server_and_opened x → y.waiting.items ≡ x.waiting.items
+    {at : ℕ} {core core' : ServedCore} {h : List WireEvent} (x y : Link) (c d : Conn) (sent : List SentCall) → x.conn ≡ Some c → x.awaits_dialect ≡ None → x.late.items ≡ [] → y.conn ≡ Some d → server_and_opened y ≡ server_and_opened (record x { lost = y.lost }) → AnswersTried x y sent → y.waiting.items ≡ x.waiting.items
     → y.awaits_dialect ≡ x.awaits_dialect → y.dialect ≡ x.dialect → y.late.items ≡ x.late.items → y.calls.sent.items ≡ sent → HoldsAnew c d → SettlesFront x.calls.sent.items c.held.items core sent core' → LineGoesFrom LineAgrees LineLost IsOfTurn at core h x core' h y
-settled_some {core = core} {core' = core'} x y c d sent was off alone is place waiting awaits speaks late same holds s =
-    line_loses x y c d s.0 was is off alone place waiting awaits speaks late (ap (λ (z : Conn). z.number) holds) (ap (λ (z : Conn). bytes_of z.unsent) holds)
+settled_some {core = core} {core' = core'} x y c d sent was off alone is place tried waiting awaits speaks late same holds s =
+    line_loses x y c d s.0 was is off alone place (still_tried x y sent same tried) waiting awaits speaks late (ap (λ (z : Conn). z.number) holds) (ap (λ (z : Conn). bytes_of z.unsent) holds)
     (subst (λ (l : List SentCall). SettlesSome x.calls.sent.items c.held.items core l s.0 core') (sym same) s.1)
 
 -- clients have the ends that they had, while what one link holds may be lost

@@ -23,7 +23,7 @@ use Rattle.core_accepted.specs.declared.served.ServedCore.{ServedCore}
 use Rattle.core_accepted.specs.declared.tally.CoreTally.{CoreTally}
 use Rattle.core_accepted.specs.Logs.{MayHaveLed, LogsGoCounting, IsFreshLog, BeginSo, fed}
 use Rattle.core_accepted.specs.Results.{PollStops, TakesResult, SettleStops}
-use Rattle.serve_links.specs.CoreSteps.{Obstacle, WaitedLong, StoreLate, ForeignCame, Unseen, Notes, Step, Opened, NotOpened, Fed, Polled, Stopped, Settled, Gave, Closed, LeftLine, Broke, Ticked, Loaded, Linked, Asked, Greeted, Spelled, Late, CameLate, Lost, Noted, Does, Walks}
+use Rattle.serve_links.specs.CoreSteps.{Obstacle, WaitedLong, StoreLate, ForeignCame, LeftAlone, Unseen, Notes, Step, Opened, NotOpened, Fed, Polled, Stopped, Settled, Gave, Closed, LeftLine, Broke, Ticked, Loaded, Linked, Asked, Greeted, Spelled, Late, CameLate, Lost, Noted, Does, Walks}
 use Rattle.core_accepted.proofs.Keeping.{since_are_fresh}
 use Rattle.core_accepted.proofs.Losses.{servers_may_lose}
 use Rattle.serve_links.proofs.Walked.{walks_keep_since}
@@ -194,6 +194,7 @@ module _ (opening : ℕ → List ℕ → Option Item) (past : List (Entry dialec
   noted_goes (WaitedLong number limit) does = stays_saying does
   noted_goes (StoreLate limit) does = stays_saying does
   noted_goes ForeignCame does = stays_saying does
+  noted_goes (LeftAlone limit) does = stays_saying does
   noted_goes (Unseen why) does = goes_by _ none_own does.1
 
   step_goes : (step : Step) → Does step old new → StepGoes opening step past old led new Holds

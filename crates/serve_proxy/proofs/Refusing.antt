@@ -16,20 +16,20 @@ use Rattle.serve_links.specs.declared.refusal.Refusal.{Refusal}
 use Rattle.serve_links.specs.declared.refusal.Refusal.TheVariants as refusals
 use Rattle.serve_links.specs.declared.settings.LinkLimits.{LinkLimits}
 use Rattle.serve_links.specs.Calls.{stores_first}
-use Rattle.serve_links.specs.CoreSteps.{Obstacle, WaitedLong, StoreLate, ForeignCame, Unseen, Notes, Step, Noted, IsSending}
+use Rattle.serve_links.specs.CoreSteps.{Obstacle, WaitedLong, StoreLate, ForeignCame, LeftAlone, Unseen, Notes, Step, Noted, IsSending}
 use Rattle.serve_links.specs.Called.{clock_in, given_in}
 use Rattle.serve_links.specs.Dialects.{awaits_flush}
 use Rattle.serve_links.specs.Lateness.{HasLate, awaits_store}
 use Rattle.serve_links.specs.Talks.{Apart, InUse, HasWaited, IsStoreFirst, IsFor, CanNotGo, IsTold, talk_in}
 use Rattle.serve_links.specs.Story.{address_and_opened, servers_of, most_of, IsByLimit, ObstacleIsShown, WasShown, LineAgrees, LineIsForeign, AnEnd, Agrees, AgreesSent, AgreesDue, AgreesRefused, AllGoFrom}
-use Rattle.serve_links.specs.Unsent.{IsRefused, NotesRefusal}
+use Rattle.serve_links.specs.Unsent.{IsRefused, IsHindered, IsLeftAlone, NotesRefusal}
 use Rattle.serve_links.proofs.ByLimits.{servers_same, most_there}
 use Rattle.serve_links.proofs.Foreign.{fails_foreign}
 use Rattle.serve_links.proofs.LateGoes.{waited_of}
 use Rattle.serve_links.proofs.LinkGoes.{unused_apart}
 use Rattle.serve_links.proofs.Showing.{none_since}
 use Rattle.serve_links.specs.Shut.{drain_of}
-use Rattle.serve_proxy.specs.Unsent.{IsRefusedAt}
+use Rattle.serve_proxy.specs.Unsent.{IsHinderedAt}
 use Rattle.serve_proxy.proofs.Going.{and_then, noted_agrees}
 use Rattle.serve_proxy.proofs.GivenUp.{out_some, late_some, store_said}
 
@@ -41,9 +41,6 @@ pub refused_given :
 refused_given {a} {b} {c} at call it same s g = and_then s (subst (λ (k : SentCall). AllGoFrom (AgreesDue k.ticket.number at k.since) Agrees IsSending b c) same g)
 
 -- ---- for a reason
-
-no_conn_some : {c : Conn} → None ≡ Some c → ⊥
-no_conn_some e = cc
 
 none_isnt_some : IsSome {T = Conn} None → ⊥
 none_isnt_some e = cc
@@ -126,6 +123,14 @@ module _ (h : List WireEvent) (cs : Clients) (ls : List Link) (number at since :
                 (subst (HasWaited link.limits.call_ms (time h)) (sym out) (waited_of link.limits.call_ms (time h) link.calls.sent.items late)),
           )
 
+  left_alone : (link : Link) (c : Conn) → slice_get ls at ≡ Some link → link.conn ≡ Some c → IsLeftAlone link → (a b : ServedCore) → b ≡ a → Refuses a b
+  left_alone link c there is alone a b same = by_note (LeftAlone link.limits.fail_limit) a b same tt (λ past due. (told past due, tt)) (ap (option_map (λ (limits : LinkLimits). limits.fail_limit)) (most_there ls at link there))
+    where
+      told : (past : List Step) → AgreesDue number at since past (With a) → (link.limits.fail_limit ≤ (talk_in past at).failed) × ((talk_in past at).out ≢ [])
+      told past due =
+          let agrees = due.0.links at link there in let most : link.limits.fail_limit ≤ link.lost = alone.0 in let tried : link.lost ≤ (talk_in past at).failed = agrees.tried in
+          (omega (arith, most, tried), out_some at past h link c agrees is alone.1)
+
   -- over a connection
   over : (why : Refusal) (link : Link) (c : Conn) → slice_get ls at ≡ Some link → link.conn ≡ Some c → (a b : ServedCore) → NotesRefusal why a b → IsRefused why since (time h) link → Refuses a b
   over refusals.NoConnection link c there is a b notes refused = no_conn link there refused a b notes
@@ -134,10 +139,8 @@ module _ (h : List WireEvent) (cs : Clients) (ls : List Link) (number at since :
   over refusals.Emptying link c there is a b notes refused = by_talk a b notes (λ past was. inr (inr (inl (ap awaits_flush ((was.links at link there).conn c is).awaits_is ∙ refused.1))))
   over refusals.ForeignCame link c there is a b notes refused = by_note ForeignCame a b notes tt (λ past due. (tt, foreign_shown at past h link c is refused.1 (due.0.links at link there))) tt
   over refusals.WaitedLong link c there is a b notes refused = waited link there refused a b notes
-  over (refusals.Unseen unshown.NoMemory) link c there is a b notes refused = by_note (Unseen unshown.NoMemory) a b notes tt (λ past due. (tt, tt)) tt
-  over (refusals.Unseen unshown.Retired) link c there is a b notes refused = by_note (Unseen unshown.Retired) a b notes tt (λ past due. (tt, tt)) tt
-  over (refusals.Unseen unshown.LeftAlone) link c there is a b notes refused = by_note (Unseen unshown.LeftAlone) a b notes tt (λ past due. (out_some at past h link c (due.0.links at link there) is refused.2, tt)) tt
-  over (refusals.Unseen unshown.NoRoom) link c there is a b notes refused = absurd refused
+  over refusals.LeftAlone link c there is a b notes refused = left_alone link c there is refused.1 a b notes
+  over refusals.NoMemory link c there is a b notes refused = absurd refused
 
   -- without one
   without : (why : Refusal) (link : Link) → slice_get ls at ≡ Some link → link.conn ≡ None → (a b : ServedCore) → NotesRefusal why a b → IsRefused why since (time h) link → Refuses a b
@@ -147,18 +150,21 @@ module _ (h : List WireEvent) (cs : Clients) (ls : List Link) (number at since :
   without refusals.Emptying link there is a b notes refused = no_conn link there is a b notes
   without refusals.ForeignCame link there is a b notes refused = no_conn link there is a b notes
   without refusals.WaitedLong link there is a b notes refused = no_conn link there is a b notes
-  without (refusals.Unseen unshown.NoMemory) link there is a b notes refused = by_note (Unseen unshown.NoMemory) a b notes tt (λ past due. (tt, tt)) tt
-  without (refusals.Unseen unshown.Retired) link there is a b notes refused = by_note (Unseen unshown.Retired) a b notes tt (λ past due. (tt, tt)) tt
-  without (refusals.Unseen unshown.LeftAlone) link there is a b notes refused = absurd (none_isnt_some (subst (λ (o : Option Conn). IsSome o) is refused.0))
-  without (refusals.Unseen unshown.NoRoom) link there is a b notes refused = absurd refused
+  without refusals.LeftAlone link there is a b notes refused = absurd (none_isnt_some (subst (λ (o : Option Conn). IsSome o) is refused.0))
+  without refusals.NoMemory link there is a b notes refused = absurd refused
 
-  pub refusal_goes : (why : Refusal) (a b : ServedCore) → NotesRefusal why a b → IsRefusedAt why at since (time h) ls → Refuses a b
+  -- memory was refused for it
+  starved : (a b : ServedCore) → NotesRefusal refusals.NoMemory a b → Refuses a b
+  starved a b notes = by_note (Unseen unshown.NoMemory) a b notes tt (λ past due. (tt, tt)) tt
+
+  pub refusal_goes : (why : Refusal) (a b : ServedCore) → NotesRefusal why a b → IsHinderedAt why at since (time h) ls → Refuses a b
   refusal_goes why a b notes refused = by (slice_get ls at) refl refused
     where
       one : (link : Link) (o : Option Conn) → slice_get ls at ≡ Some link → link.conn ≡ o → IsRefused why since (time h) link → Refuses a b
       one link None there is r = without why link there is a b notes r
       one link (Some c) there is r = over why link c there is a b notes r
 
-      by : (o : Option Link) → slice_get ls at ≡ o → MatchOption o (why ≡ refusals.NoConnection) (IsRefused why since (time h)) → Refuses a b
+      by : (o : Option Link) → slice_get ls at ≡ o → MatchOption o (why ≡ refusals.NoConnection) (IsHindered why since (time h)) → Refuses a b
       by None none is = none_there a b (subst (λ w. NotesRefusal w a b) is notes) none
-      by (Some link) there r = one link link.conn there refl r
+      by (Some link) there (inl none) = starved a b (subst (λ w. NotesRefusal w a b) none notes)
+      by (Some link) there (inr r) = one link link.conn there refl r

@@ -1,5 +1,5 @@
 -- Of what is left in buffers that no client needs: of one more, and of one less.
-use Rattle.std.proofs.Common.{◌≡◌, ℕ, List, [], ◌∷◌, ◌++◌, length, refl, sym, ap, ◌∙◌, subst, append_assoc, append-nil, arith}
+use Rattle.std.proofs.Common.{◌≡◌, ℕ, List, [], ◌∷◌, ◌++◌, refl, sym, ap, ◌∙◌, append_assoc}
 use Rattle.wire_parts.specs.declared.to_send.buffer.SendBuffer.{SendBuffer}
 use Rattle.wire_parts.specs.Sending.{bytes_of}
 use Rattle.serve_proxy.specs.Spares.{left_in}

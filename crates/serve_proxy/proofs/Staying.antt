@@ -9,7 +9,6 @@ use Rattle.serve_wire.specs.Ends.{ReadsConnection}
 use Rattle.serve_wire.specs.declared.conn.conn.Got.{Got}
 use Rattle.serve_wire.specs.declared.conn.conn.Got.TheVariants as got
 use Rattle.serve_wire.proofs.Flows.{reads_on}
-use Rattle.serve_links.specs.declared.news.Cause.{Cause}
 use Rattle.serve_links.specs.declared.news.Cause.TheVariants as causes
 use Rattle.serve_wire.proofs.Steps.{untouched, untouched_twice}
 use Rattle.serve_wire.specs.declared.conn.conn.Conn.{Conn}
@@ -90,8 +89,8 @@ line_opens at dialect what h h' x y o = λ core. line_begins x y dialect what o
 
 -- or none, and its calls fail for a while
 pub line_opens_not :
-    (at : ℕ) (dialect : ServerDialect) (what : Opening) (h h' : List WireEvent) (x y z : Link) → OpensLink at dialect what x y h h' → y.conn ≡ None → z.conn ≡ None → z.draining ≡ y.draining → address_and_limits z ≡ address_and_limits y → z.waiting.items ≡ y.waiting.items → z.calls.sent.items ≡ y.calls.sent.items → LineStands at h h' x z
-line_opens_not at dialect what h h' x y z o none closed draining server waiting sent = λ core. line_shuts (line_begins x y dialect what o) none closed draining server waiting sent
+    (at : ℕ) (dialect : ServerDialect) (what : Opening) (h h' : List WireEvent) (x y z : Link) → OpensLink at dialect what x y h h' → y.conn ≡ None → z.conn ≡ None → z.draining ≡ y.draining → address_and_limits z ≡ address_and_limits y → z.waiting.items ≡ y.waiting.items → z.calls.sent.items ≡ y.calls.sent.items → z.lost ≡ y.lost → LineStands at h h' x z
+line_opens_not at dialect what h h' x y z o none closed draining server waiting sent lost = λ core. line_shuts (line_begins x y dialect what o) none closed draining server waiting sent lost
 
 -- ---- all ends
 

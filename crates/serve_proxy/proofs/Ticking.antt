@@ -1,5 +1,5 @@
 -- A look at the clock, as a step of a walk.
-use Rattle.std.proofs.Common.{◌≡◌, ℕ, List, [], ◌∷◌, ◌++◌, Option, Some, None, refl, sym, subst}
+use Rattle.std.proofs.Common.{◌≡◌, ℕ, List, [], ◌∷◌, Option, Some, None, refl, sym, subst}
 use Rattle.std.specs.Prelude.{IfSome}
 use Rattle.mc_types.specs.declared.ask.Dialect.{Dialect}
 use Rattle.serve_wire.specs.Events.{WireEvent, ticks}
@@ -55,6 +55,8 @@ line_ticks t at past h link was = record {
   none_out = λ none. ((was.none_out none).0, all_given_later (Ticked t ∷ []) past (said_asks link.calls.sent.items) (was.none_out none).1);
   unused = λ none. unused_ticks t h at link.text.items (talk_in past at) (drain_of link) (was.unused none);
   called = called_stays past (Ticked t ∷ past) at (said_asks link.calls.sent.items) (λ n ask is. (refl, refl, refl)) was.called;
+  used = was.used;
+  tried = was.tried;
 }
 
 -- ---- all ends

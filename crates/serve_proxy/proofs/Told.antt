@@ -28,7 +28,7 @@ use Rattle.serve_links.specs.Shut.{client_conn}
 use Rattle.serve_links.proofs.Shutting.{closed_shut, shut_without, shut_opened, shut_turned}
 use Rattle.serve_links.proofs.ByLimits.{servers_same, clients_servers}
 use Rattle.serve_links.proofs.Showing.{plain_unlost, shown_later}
-use Rattle.serve_links.specs.Talks.{Talk, IsOfClients}
+use Rattle.serve_links.specs.Talks.{IsOfClients}
 use Rattle.serve_links.specs.Called.{TellsCallsOut, GiveOnce}
 use Rattle.serve_links.proofs.Called.{walks_tell_calls}
 use Rattle.serve_links.proofs.Due.{clients_stay}
@@ -36,7 +36,6 @@ use Rattle.serve_links.proofs.Talking.{IsPlain, plain_talk, clients_orderly, cli
 use Rattle.serve_links.proofs.Story.{at_told, all_told, took_all, TellsSame, same_told, gone_stays, end_gone, had_stays, line_stays, unlinked_stays}
 use Rattle.serve_links.proofs.Walked.{walked, of_both}
 use Rattle.serve_proxy.specs.Ends.{EndsStay, EndsGo, IsAllSent, IsAllSentTo, IsClosing, MayAdmit}
-use Rattle.serve_proxy.proofs.Staying.{quiet}
 use Rattle.serve_proxy.proofs.Going.{IsSilent, tells_none, silent_turn, silent_plain, silent_clients, lines_told, agree_told, had_quiet, gave_one, gave_broken, gave_state, more_given, one_touched, one_breaks, same_agrees, same_client}
 
 -- ---- what happened on no connection

@@ -1,13 +1,11 @@
 -- Servers that follow each other at one address.
-use Rattle.std.proofs.Common.{◌≡◌, ℕ, zero, suc, ◌+◌, ◌<◌, Bool, true, false, List, [], ◌∷◌, ◌⊎◌, inl, inr, get_or, Option, Some, None, refl, sym, ap, subst, ◌∙◌, arith}
+use Rattle.std.proofs.Common.{◌≡◌, ℕ, zero, suc, ◌+◌, ◌<◌, Bool, true, false, List, [], ◌∷◌, ◌⊎◌, inl, inr, get_or, Some, None, refl, sym, ap, subst, ◌∙◌, arith}
 use Rattle.std.proofs.Math.ListN.{set}
 use Rattle.std.specs.Prelude.{slice_get, not}
 use Rattle.route_json.specs.NumberedServers.{Addresses}
-use Rattle.route_json.specs.ServerNames.{epoch_is_over}
 use Rattle.serve_links.specs.declared.link.Link.{Link}
 use Rattle.serve_links.specs.Epochs.{is_retired, with_retired, LinkIsQuiet}
-use Rattle.serve_proxy.specs.Epochs.{share_address, HaveEnded, EpochIsInTurn, Retires}
-use Rattle.serve_links.specs.declared.settings.LinkLimits.{LinkLimits}
+use Rattle.serve_proxy.specs.Epochs.{share_address, HaveEnded, IsNeeded, EpochIsInTurn, Retires}
 use Rattle.serve_proxy.specs.Emptying.{EmptiesAt}
 
 none_some : {A : Type 0} (x : A) → None ≡ Some x → ⊥
@@ -80,6 +78,13 @@ retires_none links at b none = record {
 still_quiet : (was link : Link) → link ≡ with_retired (is_retired link) was → LinkIsQuiet was → LinkIsQuiet link
 still_quiet was link same quiet = subst LinkIsQuiet (sym same) (record { sent = quiet.sent; waiting = quiet.waiting; late = quiet.late; draining = quiet.draining })
 
+was_quiet : (was link : Link) → link ≡ with_retired (is_retired link) was → LinkIsQuiet link → LinkIsQuiet was
+was_quiet was link same quiet = let now : LinkIsQuiet (with_retired (is_retired link) was) = subst LinkIsQuiet same quiet in record { sent = now.sent; waiting = now.waiting; late = now.late; draining = now.draining }
+
+still_needed : (names : Addresses) (at : ℕ) (was link : Link) → link ≡ with_retired (is_retired link) was → IsNeeded names at was → IsNeeded names at link
+still_needed names at was link same (inl none) = inl none
+still_needed names at was link same (inr busy) = inr (λ quiet. busy (was_quiet was link same quiet))
+
 still_ended : (names : Addresses) (at k : ℕ) (b : Bool) (old new : List Link) → Retires k b old new → HaveEnded names at old → HaveEnded names at new
 still_ended names at k b old new r ended = λ earlier before shares link is.
     let s = r.same earlier link is in
@@ -93,10 +98,12 @@ still_in_turn names at k b old new r other turn = λ link is used.
 
 -- this one is
 pub now_in_turn :
-    (names : Addresses) (at : ℕ) (b : Bool) (old new : List Link) → Retires at b old new → (b ≡ false → (epoch_is_over names at ≡ false) × HaveEnded names at old) → EpochIsInTurn names new at
+    (names : Addresses) (at : ℕ) (b : Bool) (old new : List Link) → Retires at b old new
+    → (b ≡ false → ((link : Link) → slice_get old at ≡ Some link → IsNeeded names at link) × HaveEnded names at old) → EpochIsInTurn names new at
 now_in_turn names at b old new r when = λ link is used.
     let was = when (sym (r.one link is) ∙ used) in
-    (was.0, still_ended names at at b old new r was.1)
+    let s = r.same at link is in
+    (still_needed names at s.0 link s.2 (was.0 s.0 s.1), still_ended names at at b old new r was.1)
 
 -- ---- all below a number
 
@@ -136,5 +143,5 @@ not_false false is = sym is
 
 -- this one is in turn if that was so before
 pub in_turn_if :
-    (names : Addresses) (at : ℕ) (b : Bool) (old new : List Link) → Retires at (not b) old new → (b ≡ true → (epoch_is_over names at ≡ false) × HaveEnded names at old) → EpochIsInTurn names new at
+    (names : Addresses) (at : ℕ) (b : Bool) (old new : List Link) → Retires at (not b) old new → (b ≡ true → ((link : Link) → slice_get old at ≡ Some link → IsNeeded names at link) × HaveEnded names at old) → EpochIsInTurn names new at
 in_turn_if names at b old new r when = now_in_turn names at (not b) old new r (λ is. when (not_false b is))

@@ -1,5 +1,5 @@
 -- What a proxy's end has on its wire, and how that stays or goes on. Source: mcgate's own.
-use Rattle.std.specs.Prelude.{Bool, ◌≡◌, ◌≢◌, ℕ, List, [], ◌∷◌, ◌++◌, Option, Some, None, true, false, ◌⊎◌, IfSome, map as each, slice_get, IsSome, MatchOption}
+use Rattle.std.specs.Prelude.{Bool, ◌≡◌, ℕ, List, [], ◌∷◌, ◌++◌, Option, Some, None, true, false, ◌⊎◌, IfSome, map as each, slice_get, IsSome, MatchOption}
 use Rattle.wire_parts.specs.Sending.{bytes_of}
 use Rattle.mc_types.specs.declared.ask.Dialect.{Dialect}
 use Rattle.mc_types.specs.declared.ask.Dialect.TheVariants.{Classic}
@@ -248,7 +248,7 @@ HasNoConns h = ((conn : ℕ) → (role conn h ≡ None) × (is_open conn h ≡ f
 
 -- the line of a link to the server at the address that its text names, with its limits, without a connection, and without calls
 abbrev pub down_line : List ℕ × LinkLimits → LineState
-down_line server = ((server, 0), None, [], [], None, Classic, [], None)
+down_line server = ((server, 0, 0), None, [], [], None, Classic, [], None)
 
 -- behind the links that were there, which have the lines that they had, come links to these servers, without a connection
 abbrev pub AddsLines : List Link → List Link → Type 0

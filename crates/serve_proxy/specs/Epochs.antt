@@ -1,5 +1,5 @@
 -- Servers that follow each other at one address: when calls go to each. Source: mcgate's own.
-use Rattle.std.specs.Prelude.{◌≡◌, ℕ, ◌<◌, Bool, true, false, List, length, Option, Some, None, slice_get}
+use Rattle.std.specs.Prelude.{◌≡◌, ◌⊎◌, ℕ, ◌<◌, Bool, true, false, List, length, Option, Some, None, slice_get}
 use Rattle.std.specs.Str.{bytes_eq}
 use Rattle.route_json.specs.NumberedServers.{Addresses}
 use Rattle.route_json.specs.ServerNames.{address_in, have_epochs, epoch_is_over}
@@ -21,11 +21,15 @@ abbrev pub HaveEnded : Addresses → ℕ → List Link → Type 0
 HaveEnded names at links =
     (earlier : ℕ) → earlier < at → share_address names earlier at ≡ true → (link : Link) → slice_get links earlier ≡ Some link → LinkIsQuiet link
 
--- calls go to this server only once those before it at its address have none any more, and while none comes after it there
-abbrev pub EpochIsInTurn : Addresses → List Link → ℕ → Type 0
-EpochIsInTurn names links at = (link : Link) → slice_get links at ≡ Some link → is_retired link ≡ false → (epoch_is_over names at ≡ false) × HaveEnded names at links
+-- no server comes after this one at its address, or this one has calls still
+abbrev pub IsNeeded : Addresses → ℕ → Link → Type 0
+IsNeeded names at link = (epoch_is_over names at ≡ false) ⊎ (LinkIsQuiet link → ⊥)
 
--- if some of these servers have epochs, calls go to each of them only once those before it at its address have none any more, and while none comes after it there
+-- calls go to this server only once those before it at its address have none any more, and where one comes after it there, only while it has calls still
+abbrev pub EpochIsInTurn : Addresses → List Link → ℕ → Type 0
+EpochIsInTurn names links at = (link : Link) → slice_get links at ≡ Some link → is_retired link ≡ false → IsNeeded names at link × HaveEnded names at links
+
+-- if some of these servers have epochs, calls go to each of them only once those before it at its address have none any more, and where one comes after it there, only while it has calls still
 abbrev pub EpochsAreInTurn : Addresses → List Link → Type 0
 EpochsAreInTurn names links = have_epochs names ≡ true → (at : ℕ) → at < length names → EpochIsInTurn names links at
 

@@ -1,6 +1,6 @@
 //! Links are read, and whole answers settle the calls that are out.
 
-ghost use Rattle.std.specs.Prelude.{◌≡◌, ◌≢◌, ℕ, [], None, Some, IfSome};
+ghost use Rattle.std.specs.Prelude.{◌≡◌, ◌≢◌, ℕ, false, [], None, Some, IfSome};
 ghost use Rattle.serve_clients.specs.Agrees.{KeepsEnds};
 ghost use Rattle.serve_links.specs.Story.{line_of};
 ghost use Rattle.serve_proxy.specs.Ends.{LineStandsUnless, LineGoesUnless, over_by, over_of, AgreesUnless, Stay, GoAloneUnless, AllFailOn, AllGoOn, AllGoUnless, AllGoFromUnless};
@@ -141,6 +141,13 @@ fn take_said(
     take_answers(link, core, clients, is_freed, has_answered, polls)
 }
 
+// Whether the server has said something whole: what comes before answers, or an answer that settled a call.
+fn is_any(has_answered: bool, has_settled: bool) -> bool
+    ensures { result ≡ false → has_settled ≡ false }
+{
+    has_answered || has_settled
+}
+
 // All whole answers are settled, after another whole answer or not. Why the link fails by that, if it does.
 fn take_answers(
     link: &mut Link,
@@ -160,7 +167,7 @@ fn take_answers(
     };
     let answers = settle_held(&mut link.calls, core, clients, is_freed, conn);
     link.awaited = answers.awaited;
-    let has_failed = link.has_read(has_answered || answers.has_settled, polls);
+    let has_failed = link.has_read(is_any(has_answered, answers.has_settled), polls);
     match answers.left {
         Left::Begun => vain(has_failed),
         Left::NoAnswer => Some(Cause::ForeignAnswer),

@@ -3,7 +3,7 @@
 ghost use Rattle.std.specs.Prelude.{◌≡◌, ◌≤◌, ◌⊎◌, true, false};
 ghost use Rattle.serve_links.specs.Story.{AgreesSent, AgreesDue};
 ghost use Rattle.serve_proxy.specs.Ends.{AgreesTicket, AllSendFrom, AllFailOn};
-ghost use Rattle.serve_proxy.specs.Unsent.{IsRefusedAt, WaitsTooLongAt};
+ghost use Rattle.serve_proxy.specs.Unsent.{IsRefusedAt, IsHinderedAt, WaitsTooLongAt};
 ghost use Rattle.serve_wire.specs.Events.{time};
 
 use crate::failing::look_at_idle;
@@ -87,6 +87,7 @@ fn let_wait<W: Wire>(core: &mut ServedCore, sockets: &mut Sockets<W>, at: usize,
     let client = call.client;
     match sockets.links.let_wait(at, call) {
         Ok(()) => {
+            sockets.links.note_limit(at);
             sockets.clients.mark_waiting(client);
         }
         Err(it) => refuse(core, sockets, at, it),
@@ -104,9 +105,9 @@ fn begin_call<W: Wire>(core: &mut ServedCore, sockets: &mut Sockets<W>, at: usiz
     }
 }
 
-// The call has failed, and was never sent, for a reason that what was said over its server's connection tells, or that is counted.
+// The call has failed, and was never sent, for a reason that what was said over its server's connection tells, or as memory was refused, which is counted.
 fn refuse<W: Wire>(core: &mut ServedCore, sockets: &mut Sockets<W>, at: usize, it: NotSent)
-    requires { IsRefusedAt it.why at it.call.since (time (W.history sockets.old.wire)) sockets.old.links.all.items }
+    requires { IsHinderedAt it.why at it.call.since (time (W.history sockets.old.wire)) sockets.old.links.all.items }
     ensures ends { AllSendFrom (AgreesDue it.call.ticket.number at it.call.since) W.history core.old sockets.old core.new sockets.new }
 {
     note_refusal(core, it.why);

@@ -7,23 +7,22 @@ ghost use Rattle.serve_clients.specs.declared.clients.Clients.{Clients};
 ghost use Rattle.serve_links.specs.Lateness.{IsConnectLateAt, LinkIsRead};
 ghost use Rattle.serve_links.specs.Links.{calls_out};
 ghost use Rattle.serve_links.specs.Epochs.{LinkIsQuiet};
-ghost use Rattle.route_json.specs.ServerNames.{epoch_is_over};
-ghost use Rattle.serve_proxy.specs.Epochs.{share_address, HaveEnded, EpochIsInTurn, EpochsAreInTurn, Retires};
+ghost use Rattle.serve_proxy.specs.Epochs.{share_address, HaveEnded, IsNeeded, EpochIsInTurn, EpochsAreInTurn, Retires};
 ghost use Rattle.serve_proxy.specs.Bringing.{HaveOneAt, BeginWith, RefusesServers};
 ghost use Rattle.serve_proxy.specs.Emptying.{AddsEach, EmptiesAt};
 ghost use Rattle.serve_proxy.specs.Limiting.{value_limits, limited_by};
-ghost use Rattle.serve_proxy.specs.Unsent.{IsRefusedAt, TakesCallsAt, WaitsTooLongAt};
+ghost use Rattle.serve_proxy.specs.Unsent.{IsRefusedAt, IsHinderedAt, TakesCallsAt, WaitsTooLongAt};
 ghost use Rattle.serve_wire.specs.Events.{time};
 ghost use Rattle.serde_json.specs.View.{view};
 ghost use Rattle.serve_links.specs.Story.{line_of, texts_of, LineIsForeign};
-ghost use Rattle.serve_links.specs.Unsent.{IsRefused};
+ghost use Rattle.serve_links.specs.Unsent.{IsRefused, IsHindered};
 ghost use Rattle.serve_links.specs.Dialects.{awaits_flush};
 ghost use Rattle.serve_proxy.specs.Ends.{link_lines, LinksTake, LinksGive, LineStands, LineTakes, AwaitsNothing, HoldsAwaited, HoldsAwaitedAt, IsOpenAt, AsksIn, AwaitsLateAt, AwaitsNoneAt, EndsGo, AddsLines};
 
 use crate::clock::earlier;
 use crate::limiting::limit_links;
 use crate::texts::{is_over, share_address, text_at};
-use core_accepted::{LoadFault, Unshown};
+use core_accepted::LoadFault;
 use gate_check::ReloadFault;
 use mc_types::{Ask, Dialect};
 use route_json::addresses::Servers;
@@ -139,11 +138,11 @@ fn barred(link: &Link) -> Option<Refusal>
 
 // Memory was refused for the call.
 fn starved(call: SentCall) -> NotSent
-    ensures { result ≡ record { call = call; why = Refusal.Unseen Unshown.NoMemory } }
+    ensures { result ≡ record { call = call; why = Refusal.NoMemory } }
 {
     NotSent {
         call,
-        why: Refusal::Unseen(Unshown::NoMemory),
+        why: Refusal::NoMemory,
     }
 }
 
@@ -151,7 +150,7 @@ fn starved(call: SentCall) -> NotSent
 fn wait_for(link: &mut Link, call: SentCall) -> Result<(), NotSent>
     ensures ok { OnOk result (LineTakes call link.old link.new) }
     ensures err { IfErr result (λ it. (it.call ≡ call) × (line_of link.new ≡ line_of link.old)) }
-    ensures why { IfErr result (λ it. it.why ≡ Refusal.Unseen Unshown.NoMemory) }
+    ensures why { IfErr result (λ it. it.why ≡ Refusal.NoMemory) }
 {
     match link.let_wait(call) {
         Ok(()) => Ok(()),
@@ -165,7 +164,7 @@ fn ask_over(link: &mut Link, call: SentCall, now: u64) -> Result<(), NotSent>
     requires emptied { awaits_flush link.old.awaits_dialect ≡ false }
     ensures ok { OnOk result (LineTakes call link.old link.new) }
     ensures err { IfErr result (λ it. (it.call ≡ call) × (line_of link.new ≡ line_of link.old)) }
-    ensures why { IfErr result (λ it. (since at : ℕ) → IsRefused it.why since at link.new) }
+    ensures why { IfErr result (λ it. (since at : ℕ) → IsHindered it.why since at link.new) }
 {
     let Some(conn) = link.conn.as_mut() else {
         return Err(NotSent {
@@ -184,7 +183,7 @@ fn write_to(link: &mut Link, call: SentCall, now: u64) -> Result<(), NotSent>
     ensures ok { OnOk result (LineTakes call link.old link.new) }
     ensures awaited { OnOk result (HoldsAwaited link.old) }
     ensures err { IfErr result (λ it. (it.call ≡ call) × (line_of link.new ≡ line_of link.old)) }
-    ensures why { IfErr result (λ it. (since at : ℕ) → IsRefused it.why since at link.new) }
+    ensures why { IfErr result (λ it. (since at : ℕ) → IsHindered it.why since at link.new) }
 {
     match barred(link) {
         Some(why) => Err(NotSent { call, why }),
@@ -192,9 +191,18 @@ fn write_to(link: &mut Link, call: SentCall, now: u64) -> Result<(), NotSent>
     }
 }
 
-// When it is to be looked at if nothing comes: it fails then, or a call has waited too long for it.
-fn limit_of(link: &Link, settings: &Settings) -> Option<u64> {
-    earlier(link.time_limit(settings), link.waiting_limit())
+// When it is to be looked at if nothing comes: it fails then, or a call may have waited too long for it, by whose clock at most so much passes between two looks.
+fn limit_of(link: &Link, settings: &Settings, looked: u64) -> Option<u64> {
+    let waits = match link.waiting_limit() {
+        Some(limit) => Some(limit.max(looked.saturating_add(most_passed(settings)))),
+        None => None,
+    };
+    earlier(link.time_limit(settings), waits)
+}
+
+// How much passes at most by the clock of calls that wait between two looks, in milliseconds.
+fn most_passed(settings: &Settings) -> u64 {
+    (settings.call_ms / 8).saturating_add(1)
 }
 
 // Whether the link is to the server of this number.
@@ -288,8 +296,9 @@ impl Links {
     {
         let passed = time.saturating_sub(self.looked);
         self.looked = time;
-        let most = (self.settings.call_ms / 8).saturating_add(1);
-        self.pace = self.pace.saturating_add(passed.min(most));
+        self.pace = self
+            .pace
+            .saturating_add(passed.min(most_passed(&self.settings)));
     }
 
     /// What the clock of calls that wait shows.
@@ -408,7 +417,7 @@ impl Links {
         }
     }
 
-    // Calls of this server fail at once from now on, or they do no longer.
+    // No call goes out to this server from now on, or some may again.
     fn retire(&mut self, at: usize, is_retired: bool)
         ensures retired { Retires at is_retired self.old.all.items self.new.all.items }
         ensures lines { link_lines self.new.all.items ≡ link_lines self.old.all.items }
@@ -420,7 +429,8 @@ impl Links {
 
     // Whether no call is out at this server or waits for it, and none is late there.
     fn is_quiet(&self, at: usize) -> bool
-        ensures { result ≡ true → (link : Link) → slice_get self.now.all.items at ≡ Some link → LinkIsQuiet link }
+        ensures quiet { result ≡ true → (link : Link) → slice_get self.now.all.items at ≡ Some link → LinkIsQuiet link }
+        ensures busy { result ≡ false → (link : Link) → slice_get self.now.all.items at ≡ Some link → LinkIsQuiet link → ⊥ }
     {
         match self.all.get(at) {
             Some(link) => link.is_quiet(),
@@ -447,11 +457,18 @@ impl Links {
         true
     }
 
-    // Whether calls may go to this server: no later one has its address, and earlier ones there have no calls any more.
-    fn is_in_turn(&self, servers: &Servers, at: usize) -> bool
-        ensures { result ≡ true → (epoch_is_over servers.now at ≡ false) × HaveEnded servers.now at self.now.all.items }
+    // Whether a later server has the address of this one, which has no calls any more.
+    fn is_done(&self, servers: &Servers, at: usize) -> bool
+        ensures { result ≡ false → (link : Link) → slice_get self.now.all.items at ≡ Some link → IsNeeded servers.now at link }
     {
-        !is_over(servers, at) && self.have_ended(servers, at)
+        is_over(servers, at) && self.is_quiet(at)
+    }
+
+    // Whether calls may go to this server: no later one has its address, or it has calls still, and earlier ones there have none any more.
+    fn is_in_turn(&self, servers: &Servers, at: usize) -> bool
+        ensures { result ≡ true → ((link : Link) → slice_get self.now.all.items at ≡ Some link → IsNeeded servers.now at link) × HaveEnded servers.now at self.now.all.items }
+    {
+        !self.is_done(servers, at) && self.have_ended(servers, at)
     }
 
     // Whether this server isn't to wait for earlier ones at its address: they have no calls any more, or a later one has it.
@@ -459,7 +476,7 @@ impl Links {
         is_over(servers, at) || self.have_ended(servers, at)
     }
 
-    // Calls of this server go out where they may, and fail at once where they may not.
+    // Calls of this server go out where they may.
     fn keep_epoch(&mut self, servers: &Servers, at: usize)
         ensures turn { EpochIsInTurn servers.now self.new.all.items at }
         ensures retired { (retired : Bool) × Retires at retired self.old.all.items self.new.all.items }
@@ -469,8 +486,8 @@ impl Links {
         self.retire(at, !is_in_turn);
     }
 
-    /// Where servers have epochs: calls go to each while no later one has its address, once earlier ones there have no calls any more; all others fail at once. Whether none is
-    /// waited for.
+    /// Where servers have epochs: calls go to each once earlier ones at its address have none any more, and where a later one has its address until it has none any more itself. All others
+    /// fail: at once where there is no connection, else when they have waited. Whether none is waited for.
     pub fn keep_epochs(&mut self, servers: &Servers) -> bool
         ensures turns { EpochsAreInTurn servers.now self.new.all.items }
         ensures lines { link_lines self.new.all.items ≡ link_lines self.old.all.items }
@@ -725,7 +742,7 @@ impl Links {
     pub fn let_wait(&mut self, at: usize, call: SentCall) -> Result<(), NotSent>
         ensures ok { OnOk result (LinksTake at call self.old.all.items self.new.all.items) }
         ensures err { IfErr result (λ it. (it.call ≡ call) × (link_lines self.new.all.items ≡ link_lines self.old.all.items)) }
-        ensures why { IfErr result (λ it. (since now : ℕ) → IsRefusedAt it.why at since now self.new.all.items) }
+        ensures why { IfErr result (λ it. (since now : ℕ) → IsHinderedAt it.why at since now self.new.all.items) }
     {
         match self.all.get_mut(at) {
             Some(link) => wait_for(link, call),
@@ -776,7 +793,7 @@ impl Links {
         ensures ok { OnOk result (LinksTake at call self.old.all.items self.new.all.items) }
         ensures awaited { OnOk result (HoldsAwaitedAt at self.old.all.items) }
         ensures err { IfErr result (λ it. (it.call ≡ call) × (link_lines self.new.all.items ≡ link_lines self.old.all.items)) }
-        ensures why { IfErr result (λ it. (since clock : ℕ) → IsRefusedAt it.why at since clock self.new.all.items) }
+        ensures why { IfErr result (λ it. (since clock : ℕ) → IsHinderedAt it.why at since clock self.new.all.items) }
     {
         match self.all.get_mut(at) {
             Some(link) => write_to(link, call, now),
@@ -832,7 +849,8 @@ impl Links {
         ensures lines { link_lines self.new.all.items ≡ link_lines self.old.all.items }
     {
         if let Some(link) = self.all.get(at) {
-            self.late_from = earlier(self.late_from, limit_of(link, &self.settings));
+            let limit = limit_of(link, &self.settings, self.looked);
+            self.late_from = earlier(self.late_from, limit);
         }
     }
 
@@ -851,7 +869,7 @@ impl Links {
     {
         let mut first = None;
         for link in self.all.as_slice() {
-            first = earlier(first, limit_of(link, &self.settings));
+            first = earlier(first, limit_of(link, &self.settings, self.looked));
         }
         self.late_from = first;
     }

@@ -58,8 +58,8 @@ impl<W: Wire> Sockets<W> {
         self.links.settings.link_limits()
     }
 
-    /// Where servers have epochs: calls go to a server while no later one has its address, and once the earlier ones there have no calls any more; all others fail at once.
-    /// Whether none is waited for. It is asked after a load, and after each turn until it says so.
+    /// Where servers have epochs: calls go to a server once the earlier ones at its address have none any more, and where a later one has its address until it has none any more
+    /// itself; all others fail. Whether none is waited for. It is asked after a load, and after each turn until it says so.
     pub fn keep_epochs(&mut self, servers: &Servers) -> bool
         ensures turns { EpochsAreInTurn servers.now self.new.links.all.items }
         ensures ends { Stay W.history self.old self.new }

@@ -113,8 +113,6 @@ TellsUnplaced calls families = IsAmong (Tells (codes "mcgate_calls_unplaced_tota
 abbrev pub unshown_counts : UnshownNumbers → List Labelled
 unshown_counts unshown =
     one_labelled (codes "why") (codes "no_memory") unshown.no_memory
-    ∷ one_labelled (codes "why") (codes "retired") unshown.retired
-    ∷ one_labelled (codes "why") (codes "left_alone") unshown.left_alone
     ∷ one_labelled (codes "why") (codes "no_room") unshown.no_room
     ∷ []
 

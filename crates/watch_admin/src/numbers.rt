@@ -98,10 +98,6 @@ pub struct CallNumbers {
 pub struct UnshownNumbers {
     /// Memory was refused for a call.
     pub no_memory: u64,
-    /// No call went out to a server any more, as its epoch is over, or not yet, as an earlier one's calls were out.
-    pub retired: u64,
-    /// A server had failed too many times in a row, and a call that tried it was out.
-    pub left_alone: u64,
     /// There was no room for what came of a server.
     pub no_room: u64,
 }
@@ -1022,8 +1018,6 @@ fn unshown_samples(alloc: Global, unshown: &UnshownNumbers) -> Result<Vec<Sample
 {
     let mut samples = Vec::new(alloc);
     samples.push(sample(alloc, "why", "no_memory", unshown.no_memory)?)?;
-    samples.push(sample(alloc, "why", "retired", unshown.retired)?)?;
-    samples.push(sample(alloc, "why", "left_alone", unshown.left_alone)?)?;
     samples.push(sample(alloc, "why", "no_room", unshown.no_room)?)?;
     Ok(samples)
 }

@@ -143,8 +143,6 @@ mcgate_scrapes_total 17
 # HELP mcgate_unshown_total Calls that weren't sent, and connections of servers that were given up, for what nothing shows that came or was sent.
 # TYPE mcgate_unshown_total counter
 mcgate_unshown_total{why="no_memory"} 69
-mcgate_unshown_total{why="retired"} 70
-mcgate_unshown_total{why="left_alone"} 71
 mcgate_unshown_total{why="no_room"} 72
 "#
 }
@@ -187,7 +185,7 @@ fn stats() -> &'static str {
 "mcgate_server_error_answers_total":[{"server":"\"a\\:1?","value":31}],
 "mcgate_server_call_seconds":{"le":[{"server":"\"a\\:1?","le":"0.0001","value":10},{"server":"\"a\\:1?","le":"+Inf","value":18}],"sum":[{"server":"\"a\\:1?","value":3.004050}],"n":[{"server":"\"a\\:1?","value":18}]},
 "mcgate_scrapes_total":17,
-"mcgate_unshown_total":[{"why":"no_memory","value":69},{"why":"retired","value":70},{"why":"left_alone","value":71},{"why":"no_room","value":72}],
+"mcgate_unshown_total":[{"why":"no_memory","value":69},{"why":"no_room","value":72}],
 "mcgate_config_last_refused":[{"line":"reload refused: too many places","value":1700000000.028}]}
 "#
 }
@@ -315,8 +313,6 @@ fn numbers(alloc: Global) -> Result<Numbers, AllocError> {
         servers: servers(alloc)?,
         unshown: UnshownNumbers {
             no_memory: 69,
-            retired: 70,
-            left_alone: 71,
             no_room: 72,
         },
         scrapes: 17,

@@ -19,10 +19,8 @@ use std::test::Fail;
 use std::time::Duration;
 
 // What nothing shows, by its names.
-const UNSHOWN: [(Unshown, &str); 4] = [
+const UNSHOWN: [(Unshown, &str); 2] = [
     (Unshown::NoMemory, "no_memory"),
-    (Unshown::Retired, "retired"),
-    (Unshown::LeftAlone, "left_alone"),
     (Unshown::NoRoom, "no_room"),
 ];
 
@@ -184,7 +182,7 @@ taken 1 => SERVER_ERROR call failed\r\nSERVER_ERROR call failed\r\nSERVER_ERROR 
 taken 2 => SERVER_ERROR call failed\r\n
 taken 9 => get e\r\n
 unsent 0 => 2
-unshown => 1 left_alone
+unshown => nothing
 
 A client quits behind replies that it takes slowly: it gets them all, and then the connection is closed.
 host 127.0.0.1:5001

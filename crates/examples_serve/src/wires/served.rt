@@ -319,7 +319,82 @@ serve 35
 taken 8 => get a\r\n
 taken 9 => flush_all\r\nget b\r\n
 taken 1 => END\r\nEND\r\n
-named => no"#
+named => no
+
+A server comes back under another epoch while an answer of it is late: calls to the new one fail until that has come, and it is emptied first.
+host 127.0.0.1:5001
+host 127.0.0.1:5001#2
+peer 8
+awaits 7
+sends END\r\n
+awaits 14
+until 60000
+sends VALUE b 0 1\r\n1\r\nEND\r\n
+answers 127.0.0.1:5001
+peer 9
+awaits 11
+sends OK\r\n
+awaits 18
+sends END\r\n
+answers 127.0.0.1:5001#2
+peer 1
+sends get a\r\n
+until 5000
+sends get b\r\n
+until 70000
+sends get d\r\n
+calls 0
+peer 2
+until 40000
+sends get c\r\n
+calls 0
+new flush
+history
+file <one server>
+serve 25
+taken 8 => get a\r\nget b\r\n
+file {"pools":{"A":{"servers":["127.0.0.1:5001#2"]}},"route":"PoolRoute|A"}
+serve 30
+taken 2 => SERVER_ERROR call failed\r\n
+taken 9 => nothing
+serve 40
+taken 1 => END\r\nSERVER_ERROR call failed\r\nEND\r\n
+taken 8 => get a\r\nget b\r\n
+taken 9 => flush_all\r\nget d\r\n
+
+A command that began before a load comes to a server whose epoch is over by then, and which has no other calls: it waits there in vain.
+host 127.0.0.1:5001
+host 127.0.0.1:5001#2
+host 127.0.0.1:5002
+peer 7
+awaits 10
+sends NOT_FOUND\r\n
+answers 127.0.0.1:5002
+peer 8
+awaits 10
+sends NOT_FOUND\r\n
+awaits 17
+sends END\r\n
+answers 127.0.0.1:5001
+peer 9
+awaits 11
+sends OK\r\n
+answers 127.0.0.1:5001#2
+peer 1
+sends delete a\r\n
+until 5000
+sends get a\r\n
+calls 0
+new flush
+history
+file {"pools":{"A":{"servers":["127.0.0.1:5001"]},"B":{"servers":["127.0.0.1:5002"],"call_ms":20000}},"route":{"type":"OperationSelectorRoute","default_policy":{"type":"FailoverRoute","children":["PoolRoute|B","PoolRoute|A"]},"operation_policies":{"delete":{"type":"AllSyncRoute","children":["PoolRoute|A","PoolRoute|B"]}}}}
+serve 12
+taken 7 => delete a\r\nget a\r\n
+file {"pools":{"A":{"servers":["127.0.0.1:5001#2"]},"B":{"servers":["127.0.0.1:5002"],"call_ms":20000}},"route":{"type":"OperationSelectorRoute","default_policy":{"type":"FailoverRoute","children":["PoolRoute|B","PoolRoute|A"]},"operation_policies":{"delete":{"type":"AllSyncRoute","children":["PoolRoute|A","PoolRoute|B"]}}}}
+serve 40
+taken 1 => NOT_FOUND\r\nSERVER_ERROR call failed\r\n
+taken 8 => delete a\r\n
+open 8 => yes"#
 }
 
 // It is told what goes wrong, and nothing else.

@@ -1,4 +1,4 @@
-use Rattle.std.proofs.Common.{rules, arith, ◌≡◌, ◌≤◌, length, Bool, true, false, codes, take, sym, subst}
+use Rattle.std.proofs.Common.{rules, arith, ◌≡◌, ◌≤◌, length, true, false, codes, take, sym, subst}
 use Rattle.std.specs.Str.{bytes_eq}
 use Rattle.serve_links.specs.Dialects.{ReadsDialect, ReadsGreeting}
 use Rattle.serve_links.proofs.Ends.{not_not, never_flushed, reads_flushed, rest_of}

@@ -76,8 +76,8 @@ returns-in-Some-clause-settled c =
     let here = both c.loop.invariant.settled (between same rest c.settle_in-used.ensures.settled) in
     λ kept. elim c.match-stop.branch [
       | in-Left w ↦ both here (none (ap (λ q. q.sent.items) w.calls-is) (ap (λ z. z.held.items) w.conn-is) w.core-is)
-      | in-Long w ↦ both (both here (w.take_long-left.ensures.settled (not_lost c.match-stop.left w.take_long-left.result c.in-Some.left c.told.result.left kept c.told.ensures c.in-Some.is w.left-is))) (none (ap (λ q. q.sent.items) w.calls-is) (ap (λ z. z.held.items) w.conn-is) w.core-is)
-      | in-Large w ↦ both (both here (w.take_large-left.ensures.settled (not_lost c.match-stop.left w.take_large-left.result c.in-Some.left c.told.result.left kept c.told.ensures c.in-Some.is w.left-is))) (none (ap (λ q. q.sent.items) w.calls-is) (ap (λ z. z.held.items) w.conn-is) w.core-is)
+      | in-Long w ↦ both (both here (w.take_long-left.ensures.settled (not_lost c.match-stop.left w.take_long-left.result c.in-Some.left c.told.result.left kept c.told.ensures.left c.in-Some.is w.left-is))) (none (ap (λ q. q.sent.items) w.calls-is) (ap (λ z. z.held.items) w.conn-is) w.core-is)
+      | in-Large w ↦ both (both here (w.take_large-left.ensures.settled (not_lost c.match-stop.left w.take_large-left.result c.in-Some.left c.told.result.left kept c.told.ensures.left c.in-Some.is w.left-is))) (none (ap (λ q. q.sent.items) w.calls-is) (ap (λ z. z.held.items) w.conn-is) w.core-is)
     ]
 
 pub returns-in-Some-clause-front : goal.returns-in-Some-clause-front

@@ -4,7 +4,7 @@ use Rattle.serve_links.specs.declared.calls.calls.Left.{Left}
 use Rattle.serve_links.specs.Story.{line_of}
 use Rattle.serve_links.proofs.LinkGoes.{line_then, line_learns, line_keeps}
 use Rattle.serve_links.proofs.Foreign.{foreign_goes}
-use Rattle.serve_proxy.proofs.Linking.{line_may_lose}
+use Rattle.serve_proxy.proofs.Linking.{line_vain, line_may_lose}
 use Rattle.serve_proxy.proofs.GivenUp.{no_room_goes, vain_goes}
 use Rattle.serve_proxy.proofs.answers.take_said.Goals as goal
 
@@ -18,7 +18,7 @@ pub returns-then-awaits_greeting : goal.returns-then-awaits_greeting
 returns-then-awaits_greeting c = record {
   goes = λ at h.
       vain_goes c.has_read.result c.vain.result c.vain.ensures c.has_read.ensures.failed
-      (line_then (line_learns c.args.link.now c.learn.new.self c.learn.result c.learn.ensures.learns) (line_keeps (λ d. untouched d h) (ap line_of c.has_read.ensures.rest)));
+      (line_then (line_learns c.args.link.now c.learn.new.self c.learn.result c.learn.ensures.learns) (line_keeps (λ d. untouched d h) (line_vain c.learn.new.self c.has_read.new.self (ap line_of c.has_read.ensures.rest) (c.has_read.ensures.vain refl))));
   ends = λ j. refl;
 }
 

@@ -1,4 +1,4 @@
-use Rattle.std.proofs.Common.{◌≡◌, inl, inr, refl, ◌∙◌, subst}
+use Rattle.std.proofs.Common.{inl, inr, refl, ◌∙◌, subst}
 use Rattle.serve_proxy.specs.declared.links.Links.{Links}
 use Rattle.serve_proxy.specs.Unsent.{WaitsTooLongAt}
 use Rattle.serve_proxy.proofs.Going.{still, and_then}

@@ -3,11 +3,11 @@ use Rattle.serve_links.specs.declared.calls.calls.SentCall.{SentCall}
 use Rattle.serve_links.proofs.Story.{still_called}
 use Rattle.serve_proxy.proofs.Going.{and_then, stays, called_due}
 use Rattle.serve_proxy.proofs.Staying.{stay_links}
-use Rattle.serve_proxy.proofs.Linking.{called_at}
+use Rattle.serve_proxy.proofs.Linking.{called_at, hindered_at}
 use Rattle.serve_proxy.proofs.calls.send_looked.Goals as goal
 
 pub refuse-requires : goal.refuse-requires
-refuse-requires g c = c.in-Err.ensures.refused c.last_millis.result
+refuse-requires g c = hindered_at c.in-Err.why _ c.number-at.result c.last_millis.result _ (c.in-Err.ensures.refused c.last_millis.result)
 
 pub returns-in-Err : goal.returns-in-Err
 returns-in-Err g c = record {

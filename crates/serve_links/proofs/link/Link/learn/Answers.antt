@@ -1,4 +1,4 @@
-use Rattle.std.proofs.Common.{ℕ, List, Some, refl, sym, ◌∙◌, subst}
+use Rattle.std.proofs.Common.{ℕ, List, Some, refl, sym, subst}
 use Rattle.serve_links.specs.Dialects.{GreetsNone, ReadsGreeting}
 use Rattle.wire_stream.specs.declared.meta_gets.dialect.DialectRead.TheVariants as reads
 use Rattle.serve_links.proofs.Ends.{learns_told}

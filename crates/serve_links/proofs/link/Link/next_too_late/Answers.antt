@@ -1,4 +1,3 @@
-use Rattle.std.proofs.Common.{◌≡◌}
 use Rattle.serve_links.specs.Unsent.{IsRefused}
 use Rattle.serve_links.proofs.Refused.{refused_anew, first_is}
 use Rattle.serve_links.proofs.link.Link.next_too_late.Goals as goal

@@ -4,7 +4,7 @@ use Rattle.serve_links.specs.declared.calls.calls.Left.{Left}
 use Rattle.serve_links.specs.declared.calls.calls.Left.TheVariants as lefts
 use Rattle.serve_links.specs.declared.link.Link.{Link}
 use Rattle.serve_links.specs.Story.{line_of}
-use Rattle.serve_links.proofs.LinkGoes.{quiet, line_keeps, line_then}
+use Rattle.serve_links.proofs.LinkGoes.{quiet, line_keeps, line_forgets, line_then}
 use Rattle.serve_links.proofs.LateGoes.{line_still}
 use Rattle.serve_links.proofs.link.Link.throw_late.Goals as goal
 
@@ -34,7 +34,7 @@ returns-then-awaits_late c = record { goes = c.loop.invariant.goes; over = λ is
 
 pub returns : goal.returns
 returns c = record {
-  goes = λ at core h. line_then (c.loop.invariant.goes at core h) (line_keeps (quiet h) (ap line_of c.come_back.ensures));
+  goes = λ at core h. line_then (c.loop.invariant.goes at core h) (line_forgets c.loop.self c.come_back.new.self (ap (λ (z : Link). z.lost) c.come_back.ensures) (ap line_of c.come_back.ensures));
   over = λ is. ap (λ (z : Link). z.late.items) c.come_back.ensures ∙ c.awaits_late-2.ensures.none c.if-awaits_late.false;
   foreign = λ is. absurd cc;
   told = ap (λ (z : Link). z.awaits_dialect) c.come_back.ensures ∙ c.loop.invariant.told;

@@ -1,5 +1,5 @@
 use Rattle.std.proofs.Common.{◌≡◌, true, false, arith, refl, sym, ◌∙◌}
-use Rattle.serve_proxy.proofs.LinkTexts.{one_more_of, all_of, as_long, have_one}
+use Rattle.serve_proxy.proofs.LinkTexts.{one_more_of, all_of, have_one}
 use Rattle.serve_proxy.proofs.links.Links.are_of.Goals as goal
 
 false_true : false ≡ true → ⊥
