@@ -12,8 +12,6 @@ use Rattle.core_proxy.specs.declared.note.Poll.TheVariants as polls
 use Rattle.core_accepted.specs.declared.tally.CoreTally.{CoreTally}
 use Rattle.core_accepted.specs.declared.tally.OpTally.{OpTally}
 use Rattle.core_accepted.specs.declared.tally.ServerTally.{ServerTally}
-use Rattle.core_accepted.specs.declared.tally.Unshown.{Unshown}
-use Rattle.core_accepted.specs.declared.tally.Unshown.TheVariants as unshown
 
 -- the replies that are told apart: an error, one that shows an item, that to a delete that was acknowledged, and any other
 pub data ReplyKind : Type 0 where
@@ -118,18 +116,9 @@ abbrev pub with_opening : Result ℕ CoreFault → CoreTally → CoreTally
 with_opening (Ok client) tally = with_client tally
 with_opening (Err fault) tally = with_refusal tally
 
--- the place of what nothing shows among all
-abbrev pub unshown_number : Unshown → ℕ
-unshown_number unshown.NoMemory = 0
-unshown_number unshown.NoRoom = 1
-
--- something was done once more for what nothing shows
-abbrev pub with_unshown : Unshown → CoreTally → CoreTally
-with_unshown why tally = record tally { unshown = more_at (unshown_number why) tally.unshown }
-
 -- nothing was done yet, and no server has a place
 abbrev pub nothing_done : CoreTally
-nothing_done = record { opened = 0; refused = 0; bad_messages = 0; ended = 0; calls = 0; answered = 0; failed = 0; errors = replicate 12 0; items = replicate 12 0; acknowledged = replicate 12 0; others = replicate 12 0; calls_at = []; answered_at = []; failed_at = []; unplaced = 0; unshown = replicate 2 0 }
+nothing_done = record { opened = 0; refused = 0; bad_messages = 0; ended = 0; calls = 0; answered = 0; failed = 0; errors = replicate 12 0; items = replicate 12 0; acknowledged = replicate 12 0; others = replicate 12 0; calls_at = []; answered_at = []; failed_at = []; unplaced = 0 }
 
 -- some places were added, with no count
 abbrev pub AddsPlaces : List ℕ → List ℕ → Type 0
@@ -154,7 +143,3 @@ of_op tally op = record {
 -- of one server
 abbrev pub of_server : CoreTally → ℕ → ServerTally
 of_server tally server = record { calls = slice_index tally.calls_at server; answered = slice_index tally.answered_at server; failed = slice_index tally.failed_at server }
-
--- how often something was done for this
-abbrev pub of_unshown : CoreTally → Unshown → ℕ
-of_unshown tally why = slice_index tally.unshown (unshown_number why)

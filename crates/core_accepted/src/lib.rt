@@ -17,4 +17,4 @@ pub use gate_growth::ledger::Beginning;
 pub use generations::Generations;
 pub use loading::LoadFault;
 pub use served::ServedCore;
-pub use tally::{CoreTally, OpTally, ServerTally, Unshown};
+pub use tally::{CoreTally, OpTally, ServerTally};

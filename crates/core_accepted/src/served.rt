@@ -10,14 +10,14 @@ ghost use Rattle.core_commands.specs.Lines.{is_standing};
 ghost use Rattle.core_proxy.specs.Polls.{Polls, PollFault};
 ghost use Rattle.core_proxy.specs.Settles.{FitsCall, asked, SettleFault};
 ghost use Rattle.core_accepted.specs.Logs.{IsNew, IsNewFrom, IsUnchecked, CountsBegun, LogsGoBy, fed};
-ghost use Rattle.core_accepted.specs.Tallies.{with_client, with_refusal, with_unshown, MakesPlaces, nothing_done};
+ghost use Rattle.core_accepted.specs.Tallies.{with_client, with_refusal, MakesPlaces, nothing_done};
 ghost use Rattle.core_accepted.specs.Loading.{IsTakenUp, TakesPlaces, IsLoaded, RefusesLoad};
 ghost use Rattle.core_accepted.specs.Results.{StaysCounting, PollGoes, PollStops, IsCallAt, TakesResult, SettleStops, IsSettled};
 
 use crate::beginnings::Beginnings;
 use crate::generations::Generations;
 use crate::loading::{LoadFault, load_accepted, load_any};
-use crate::tally::{CoreTally, Unshown, is_answer};
+use crate::tally::{CoreTally, is_answer};
 use core_proxy::{Core, CoreFault, CoreLimits, Poll, Ticket};
 use gate_check::Accepted;
 use mc_types::{Ask, Outcome};
@@ -249,14 +249,6 @@ impl ServedCore {
         let settled = self.core.settle(ticket, outcome);
         self.tally.note_settled(answered, server, &settled);
         settled
-    }
-
-    /// A call isn't sent, or a server's connection is given up, for what nothing shows: that is counted. Each log stays.
-    pub fn note_unshown(&mut self, why: Unshown)
-        ensures core { self.new.core ≡ self.old.core }
-        ensures counted { StaysCounting (with_unshown why) self.old self.new }
-    {
-        self.tally.note_unshown(why);
     }
 
     /// Whether there is no client of this id, or nothing is read of it any more.

@@ -2,7 +2,7 @@
 
 ghost use Rattle.std.specs.Prelude.{◌≡◌, ◌<◌, true, false, IfOk, OnErr};
 ghost use Rattle.route_tree.specs.Operation.{op_number};
-ghost use Rattle.core_accepted.specs.Tallies.{more_at, lost_unless, MakesPlaces, with_note, with_call, with_poll, is_answer, with_end, with_settling, with_opening, with_unshown, unshown_number, nothing_done, of_op, of_server, of_unshown};
+ghost use Rattle.core_accepted.specs.Tallies.{more_at, lost_unless, MakesPlaces, with_note, with_call, with_poll, is_answer, with_end, with_settling, with_opening, nothing_done, of_op, of_server};
 
 use crate::server_counts::ServerCounts;
 use core_proxy::{CoreFault, Note, Poll};
@@ -46,17 +46,6 @@ pub struct CoreTally {
     /// How often a call that it gave out, or one that was answered or has failed, is counted at no server: its server has no place here, as memory
     /// was refused for that.
     pub unplaced: u64,
-    // For each of what nothing shows, how often something was done for it.
-    unshown: [u64; 2],
-}
-
-/// For what a call isn't sent, or a server's connection is given up, though nothing shows it that came or was sent.
-#[derive(Clone, Copy, PartialEq, Eq)]
-pub enum Unshown {
-    /// Memory was refused for the call.
-    NoMemory,
-    /// There was no room for what came of the server: more came than is held, or memory was refused for it.
-    NoRoom,
 }
 
 /// What has become of the calls of a server.
@@ -104,17 +93,6 @@ fn place_of(op: Op) -> usize
     }
 }
 
-// The place of what nothing shows among all.
-fn unshown_place(why: Unshown) -> usize
-    ensures place { result ≡ unshown_number why }
-    ensures bound { result < 2 }
-{
-    match why {
-        Unshown::NoMemory => 0,
-        Unshown::NoRoom => 1,
-    }
-}
-
 /// Whether a call was answered.
 pub(crate) fn is_answer(outcome: &Outcome) -> bool
     ensures { result ≡ is_answer outcome.now }
@@ -154,7 +132,6 @@ impl CoreTally {
             answered_at: ServerCounts::new(alloc),
             failed_at: ServerCounts::new(alloc),
             unplaced: 0,
-            unshown: [0; 2],
         }
     }
 
@@ -274,21 +251,6 @@ impl CoreTally {
             Err(CoreFault::NoMemory) => self.note_end(answered, server),
             Err(_) => {}
         }
-    }
-
-    /// Something was done for what nothing shows.
-    pub fn note_unshown(&mut self, why: Unshown)
-        ensures { self.new ≡ with_unshown why self.old }
-    {
-        let place = unshown_place(why);
-        self.unshown[place] = self.unshown[place].saturating_add(1);
-    }
-
-    /// How often something was done for this, which nothing shows.
-    pub fn unshown(&self, why: Unshown) -> u64
-        ensures { result ≡ of_unshown self.now why }
-    {
-        self.unshown[unshown_place(why)]
     }
 
     /// How many commands of this operation have ended.

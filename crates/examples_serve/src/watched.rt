@@ -64,8 +64,6 @@ line mcgate_calls_made_total => 8
 line mcgate_calls_total{outcome="answered"} => 8
 line mcgate_calls_total{outcome="failed"} => 0
 line mcgate_calls_unplaced_total => 0
-line mcgate_unshown_total{why="no_memory"} => 0
-line mcgate_unshown_total{why="no_room"} => 0
 line mcgate_server_calls_made_total{server="127.0.0.1:5001"} => 7
 line mcgate_server_calls_made_total{server="127.0.0.1:5002"} => 1
 line mcgate_server_calls_total{server="127.0.0.1:5001",outcome="answered"} => 7

@@ -14,7 +14,7 @@ use Rattle.serve_links.specs.Story.{Agrees, texts_of}
 use Rattle.serve_links.specs.Called.{TellsCallsOut}
 use Rattle.serve_links.specs.Talks.{IsOrderly}
 use Rattle.core_accepted.specs.Tallies.{nothing_done, MakesPlaces}
-use Rattle.serve_links.specs.Counts.{AreCounted, ResultsAreCounted, NotesAreCounted}
+use Rattle.serve_links.specs.Counts.{AreCounted, ResultsAreCounted}
 use Rattle.serve_links.specs.ByServer.{AreCountedByServer}
 use Rattle.serve_links.proofs.Counts.{steps_are_counted}
 use Rattle.serve_links.proofs.ByServer.{steps_are_counted_by_server}
@@ -97,10 +97,6 @@ has_results steps first last none walks tells orderly =
     subst (λ l. ResultsAreCounted l last.tally) (append-nil steps)
     (steps_are_counted.results_go_on steps [] first last walks tells (subst IsOrderly (sym (append-nil steps)) orderly) (steps_are_counted.results_begin first.tally none))
 
--- so is what nothing shows
-has_notes : (steps : List Step) (first last : ServedCore) → MakesPlaces nothing_done first.tally → Walks steps first last → NotesAreCounted steps last.tally
-has_notes steps first last none walks = subst (λ l. NotesAreCounted l last.tally) (append-nil steps) (steps_are_counted.notes_go_on steps [] first last walks (steps_are_counted.notes_begin first.tally none))
-
 -- the calls of each server are counted
 has_counted_by_server :
     (steps : List Step) (first last : ServedCore) → MakesPlaces nothing_done first.tally → Walks steps first last → TellsCallsOut [] first → IsOrderly steps → AreCountedByServer steps last.tally
@@ -125,7 +121,6 @@ has_served servable text begun settings first last begins from fresh sound =
       late = has_freshly_late servable begun shared g.steps first.core.value last.core.value begins.core.2 g.walks begins.agrees.calls agrees.orderly sound;
       counts = has_counted g.steps first.core.value last.core.value (nothing_done_by servable begun shared first.core.value begins.core.2) g.walks;
       results = has_results g.steps first.core.value last.core.value (nothing_done_by servable begun shared first.core.value begins.core.2) g.walks begins.agrees.calls agrees.orderly;
-      notes = has_notes g.steps first.core.value last.core.value (nothing_done_by servable begun shared first.core.value begins.core.2) g.walks;
       by_server = has_counted_by_server g.steps first.core.value last.core.value (nothing_done_by servable begun shared first.core.value begins.core.2) g.walks begins.agrees.calls agrees.orderly;
     }
 

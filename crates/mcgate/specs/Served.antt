@@ -10,7 +10,7 @@ use Rattle.serve_wire.specs.Events.{WireEvent}
 use Rattle.serve_wire.specs.declared.sockets.sockets.Sockets.{Sockets}
 use Rattle.serve_links.specs.CoreSteps.{Step}
 use Rattle.serve_links.specs.Story.{Agrees, texts_of}
-use Rattle.serve_links.specs.Counts.{AreCounted, ResultsAreCounted, NotesAreCounted}
+use Rattle.serve_links.specs.Counts.{AreCounted, ResultsAreCounted}
 use Rattle.serve_links.specs.ByServer.{AreCountedByServer}
 use Rattle.serve_links.specs.InOrder.{AreFreshAlong}
 use Rattle.serve_proxy.specs.declared.proxy.ProxyEnd.{ProxyEnd}
@@ -92,7 +92,6 @@ pub record HasServed (servable : Servable) (text : List ℕ) (begun : Beginnings
   pub late : GoFreshlyLate servable begun serves.steps first.core.value end.core.value
   pub counts : AreCounted serves.steps end.core.value.tally
   pub results : ResultsAreCounted serves.steps end.core.value.tally
-  pub notes : NotesAreCounted serves.steps end.core.value.tally
   pub by_server : AreCountedByServer serves.steps end.core.value.tally
 
 -- where the gate accepted what is served, the core is one on its configuration and others that it accepted after it, and each log that may have led to it is fresh, if servers began so; and if they may have held anything, also where they apply calls that had failed late, but in the order of their connections

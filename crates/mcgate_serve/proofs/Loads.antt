@@ -11,7 +11,7 @@ use Rattle.serve_wire.specs.Events.{WireEvent}
 use Rattle.serve_links.specs.declared.link.Link.{Link}
 use Rattle.serve_links.specs.declared.settings.LinkLimits.{LinkLimits}
 use Rattle.serve_links.specs.declared.settings.Settings.{Settings}
-use Rattle.serve_links.specs.CoreSteps.{Obstacle, WaitedLong, StoreLate, ForeignCame, LeftAlone, Unseen, Step, Opened, NotOpened, Fed, Polled, Stopped, Settled, Gave, Closed, LeftLine, Broke, Ticked, Loaded, Linked, Asked, Greeted, Spelled, Late, CameLate, Lost, Noted, StepsAreOf, IsOfTurn}
+use Rattle.serve_links.specs.CoreSteps.{Obstacle, WaitedLong, StoreLate, ForeignCame, LeftAlone, ManyWait, Step, Opened, NotOpened, Fed, Polled, Stopped, Settled, Gave, Closed, LeftLine, Broke, Ticked, Loaded, Linked, Asked, Greeted, Spelled, Late, CameLate, Lost, Noted, StepsAreOf, IsOfTurn}
 use Rattle.serve_links.specs.Lateness.{usual_limits}
 use Rattle.serve_links.specs.Story.{AnEnd, AllGo, ObstacleIsByLimit, IsByLimit, most_of, texts_of, servers_of}
 use Rattle.serve_proxy.specs.declared.proxy.ProxyEnd.{ProxyEnd}
@@ -76,7 +76,7 @@ obstacle_more usual names more text at (WaitedLong number limit) u = (u.0, get_m
 obstacle_more usual names more text at (StoreLate limit) u = (u.0, get_more names more at u.0 u.1, u.2)
 obstacle_more usual names more text at ForeignCame u = tt
 obstacle_more usual names more text at (LeftAlone limit) u = (u.0, get_more names more at u.0 u.1, u.2)
-obstacle_more usual names more text at (Unseen why) u = tt
+obstacle_more usual names more text at ManyWait u = tt
 
 uses_more : (usual : LinkLimits) (names more : List (List ℕ)) (before after : List ℕ) (step : Step) → UsesText usual names before after step → UsesText usual (names ++ more) before after step
 uses_more usual names more before after (Late at number limit now) u = (u.0, (u.1.0, get_more names more at u.1.0 u.1.1, u.1.2))
@@ -129,7 +129,7 @@ obstacle_uses usual names text most may at (WaitedLong number limit) late = may 
 obstacle_uses usual names text most may at (StoreLate limit) late = may call_limit at limit late
 obstacle_uses usual names text most may at ForeignCame late = tt
 obstacle_uses usual names text most may at (LeftAlone limit) late = may failure_limit at limit late
-obstacle_uses usual names text most may at (Unseen why) late = tt
+obstacle_uses usual names text most may at ManyWait late = tt
 
 -- a turn leaves it in use
 turn_uses : (usual : LinkLimits) (names : List (List ℕ)) (text : List ℕ) (most : ℕ → Option LinkLimits) → MayBe usual names text most → (step : Step) → IsOfTurn step → IsByLimit most step → UsesText usual names text text step

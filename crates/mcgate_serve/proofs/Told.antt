@@ -9,7 +9,7 @@ use Rattle.watch_admin.specs.declared.families.Amount.TheVariants.{Count}
 use Rattle.watch_admin.specs.declared.families.Family.{Family}
 use Rattle.watch_admin.specs.declared.numbers.Numbers.{Numbers}
 use Rattle.watch_admin.specs.declared.numbers.ServerNumbers.{ServerNumbers}
-use Rattle.watch_admin.specs.Told.{Tells, IsAmong, TellsUnshown, one_labelled}
+use Rattle.watch_admin.specs.Told.{Tells, IsAmong, one_labelled}
 use Rattle.mcgate_serve.specs.Told.{IsRowOfServer, AreOfServers, FamiliesTell, IsInPrometheus, IsInJson, HasTally, TellsTally, TellsInPrometheus, TellsInJson}
 
 -- families that tell of numbers which have what a core counts
@@ -38,7 +38,6 @@ tells_tally core servers numbers families has tell =
           has.failed answered;
       of_servers = (numbers.servers.items, has.servers_are, tell.servers);
       unplaced = subst (λ n. IsAmong (Tells (codes "mcgate_calls_unplaced_total") (([], Count n) ∷ [])) families) has.unplaced tell.unplaced;
-      unshown = subst (λ n. TellsUnshown n families) has.unshown tell.unshown;
     }
 
 -- a text of numbers that have what the core counts tells just that

@@ -4,7 +4,7 @@ use Rattle.route_json.specs.Servers.{Addresses}
 use Rattle.serve_wire.specs.Events.{WireEvent}
 use Rattle.serve_links.specs.declared.settings.LinkLimits.{LinkLimits}
 use Rattle.serve_links.specs.declared.settings.Settings.{Settings}
-use Rattle.serve_links.specs.CoreSteps.{Obstacle, WaitedLong, StoreLate, ForeignCame, LeftAlone, Unseen, Step, Opened, NotOpened, Fed, Polled, Stopped, Settled, Gave, Closed, LeftLine, Broke, Ticked, Loaded, Linked, Asked, Greeted, Spelled, Late, CameLate, Lost, Noted}
+use Rattle.serve_links.specs.CoreSteps.{Obstacle, WaitedLong, StoreLate, ForeignCame, LeftAlone, ManyWait, Step, Opened, NotOpened, Fed, Polled, Stopped, Settled, Gave, Closed, LeftLine, Broke, Ticked, Loaded, Linked, Asked, Greeted, Spelled, Late, CameLate, Lost, Noted}
 use Rattle.serve_links.specs.Lateness.{usual_limits}
 use Rattle.serve_links.specs.Story.{AnEnd, texts_of, servers_of}
 use Rattle.serve_proxy.specs.declared.proxy.ProxyEnd.{ProxyEnd}
@@ -35,7 +35,7 @@ ObstacleIsByText usual names text at (WaitedLong number limit) = IsTextLimit cal
 ObstacleIsByText usual names text at (StoreLate limit) = IsTextLimit call_limit usual names text at limit
 ObstacleIsByText usual names text at ForeignCame = Unit {0}
 ObstacleIsByText usual names text at (LeftAlone limit) = IsTextLimit failure_limit usual names text at limit
-ObstacleIsByText usual names text at (Unseen why) = Unit {0}
+ObstacleIsByText usual names text at ManyWait = Unit {0}
 
 -- a step, and the text in use before it and after it: a call is late, or has waited long, or a server is left alone, by the limit of its server by that text, a connection that is given up has that of its server, and a load alone brings another text, which says what is loaded: its servers are those of these names, by their numbers
 abbrev pub UsesText : (usual : LinkLimits) (names : List (List ℕ)) (before after : List ℕ) → Step → Type 0

@@ -5,18 +5,16 @@ use Rattle.mc_types.specs.Asks.{all_ops}
 use Rattle.route_tree.specs.Each.{Each}
 use Rattle.gate_gaps.specs.Names.{op_name}
 use Rattle.core_accepted.specs.declared.tally.CoreTally.{CoreTally}
-use Rattle.core_accepted.specs.declared.tally.Unshown.TheVariants as unshown
 use Rattle.core_accepted.specs.declared.served.ServedCore.{ServedCore}
 use Rattle.route_json.specs.Servers.{Addresses}
-use Rattle.core_accepted.specs.Tallies.{of_op, of_server, of_unshown}
+use Rattle.core_accepted.specs.Tallies.{of_op, of_server}
 use Rattle.watch_admin.specs.declared.families.Amount.TheVariants.{Count}
 use Rattle.watch_admin.specs.declared.families.Family.{Family}
 use Rattle.watch_admin.specs.declared.numbers.Numbers.{Numbers}
 use Rattle.watch_admin.specs.declared.numbers.ServerNumbers.{ServerNumbers}
-use Rattle.watch_admin.specs.declared.numbers.UnshownNumbers.{UnshownNumbers}
 use Rattle.watch_admin.specs.Prometheus.{families_text}
 use Rattle.watch_admin.specs.Json.{object_json}
-use Rattle.watch_admin.specs.Told.{Labelled, Tells, IsAmong, TellsClients, TellsMessages, TellsBegun, TellsCommands, TellsCalls, TellsServers, TellsUnplaced, TellsUnshown, one_labelled, command_count, command_counts}
+use Rattle.watch_admin.specs.Told.{Labelled, Tells, IsAmong, TellsClients, TellsMessages, TellsBegun, TellsCommands, TellsCalls, TellsServers, TellsUnplaced, one_labelled, command_count, command_counts}
 
 -- how many commands of an operation have ended with each kind of reply
 abbrev pub op_counts : CoreTally → Op → List Labelled
@@ -36,7 +34,6 @@ pub record FamiliesTell (numbers : Numbers) (families : List Family) : Type 0 wh
   pub calls : TellsCalls numbers.calls families
   pub servers : TellsServers numbers.servers.items families
   pub unplaced : TellsUnplaced numbers.calls families
-  pub unshown : TellsUnshown numbers.unshown families
 
 abbrev pub IsInPrometheus : Numbers → List ℕ → Type 0
 IsInPrometheus numbers text = (families : List Family) × FamiliesTell numbers families × (text ≡ families_text families)
@@ -59,10 +56,6 @@ IsRowOfServer tally servers numbers = (server : ℕ) × (text : List ℕ) × (sl
 abbrev pub AreOfServers : CoreTally → Addresses → List ServerNumbers → Type 0
 AreOfServers tally servers rows = Each (IsRowOfServer tally servers) rows
 
--- how often something was done for what nothing shows
-abbrev pub unshown_of : CoreTally → UnshownNumbers
-unshown_of tally = record { no_memory = of_unshown tally unshown.NoMemory; no_room = of_unshown tally unshown.NoRoom }
-
 -- these numbers have what the core counts, also of servers
 pub record HasTally (core : ServedCore) (servers : Addresses) (numbers : Numbers) : Type 0 where
   pub opened : numbers.clients.accepted ≡ core.tally.opened
@@ -74,10 +67,9 @@ pub record HasTally (core : ServedCore) (servers : Addresses) (numbers : Numbers
   pub answered : numbers.calls.answered ≡ core.tally.answered
   pub failed : numbers.calls.failed ≡ core.tally.failed
   pub unplaced : numbers.calls.unplaced ≡ core.tally.unplaced
-  pub unshown : numbers.unshown ≡ unshown_of core.tally
   pub servers_are : AreOfServers core.tally servers numbers.servers.items
 
--- what the core counts stands at its names: clients that came, messages that were refused, commands that have begun and that have ended, and calls, also those of servers, each under its text, how often one is counted at none, and what was done for what nothing shows
+-- what the core counts stands at its names: clients that came, messages that were refused, commands that have begun and that have ended, and calls, also those of servers, each under its text, and how often one is counted at none
 pub record TellsTally (core : ServedCore) (servers : Addresses) (families : List Family) : Type 0 where
   pub clients :
       IsAmong
@@ -97,7 +89,6 @@ pub record TellsTally (core : ServedCore) (servers : Addresses) (families : List
       families
   pub of_servers : (rows : List ServerNumbers) × AreOfServers core.tally servers rows × TellsServers rows families
   pub unplaced : IsAmong (Tells (codes "mcgate_calls_unplaced_total") (([], Count core.tally.unplaced) ∷ [])) families
-  pub unshown : TellsUnshown (unshown_of core.tally) families
 
 -- the text is that of such families, in Prometheus' format or in JSON
 abbrev pub TellsInPrometheus : ServedCore → Addresses → List ℕ → Type 0

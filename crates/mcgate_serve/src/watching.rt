@@ -4,12 +4,12 @@ ghost use Rattle.std.specs.Prelude.{◌≡◌, IfOk, OnOk, flat_map};
 ghost use Rattle.mc_types.specs.Asks.{all_ops};
 ghost use Rattle.watch_admin.specs.Told.{command_counts};
 ghost use Rattle.watch_admin.specs.declared.http.request.Page.TheVariants.{Metrics, Stats};
-ghost use Rattle.mcgate_serve.specs.Told.{op_counts, unshown_of, IsToldOf, AreOfServers, HasTally, IsInPrometheus, IsInJson, TellsInPrometheus, TellsInJson};
+ghost use Rattle.mcgate_serve.specs.Told.{op_counts, IsToldOf, AreOfServers, HasTally, IsInPrometheus, IsInJson, TellsInPrometheus, TellsInJson};
 
 use crate::build::IS_PROVED;
 use crate::seen::{LastFailure, Seen};
 use crate::serving::resolve;
-use core_accepted::{CoreTally, Unshown};
+use core_accepted::CoreTally;
 use gate_gaps::names::op_name;
 use mc_types::Op;
 use route_json::addresses::Servers;
@@ -30,7 +30,7 @@ use watch_admin::http::visitors::Visitors;
 use watch_admin::json::write_json;
 use watch_admin::numbers::{
     CallNumbers, CauseNumbers, ClientNumbers, CommandNumbers, CommandTimes, LimitNumbers, Numbers,
-    ProcessNumbers, ServerNumbers, SpanNumbers, UnshownNumbers, families_of, families_with_lines,
+    ProcessNumbers, ServerNumbers, SpanNumbers, families_of, families_with_lines,
 };
 use watch_admin::places::PLACES;
 use watch_admin::prometheus::write_prometheus;
@@ -155,17 +155,6 @@ fn calls_of<W: Wire>(end: &ProxyEnd<W>) -> CallNumbers
         answered: of_core.answered,
         failed: of_core.failed,
         unplaced: of_core.unplaced,
-    }
-}
-
-// How often something was done for what nothing shows.
-fn unshown_numbers<W: Wire>(end: &ProxyEnd<W>) -> UnshownNumbers
-    ensures { result ≡ unshown_of end.now.core.value.tally }
-{
-    let of_core = end.core_tally();
-    UnshownNumbers {
-        no_memory: of_core.unshown(Unshown::NoMemory),
-        no_room: of_core.unshown(Unshown::NoRoom),
     }
 }
 
@@ -363,7 +352,6 @@ fn numbers_of<R: Files + AllocGlobal, W: Wire>(
         command_times: command_times_of(rt.alloc(), end)?,
         calls: calls_of(end),
         servers: servers_of(rt.alloc(), end, servers, seen)?,
-        unshown: unshown_numbers(end),
         scrapes: times.scrapes,
     })
 }

@@ -4,7 +4,7 @@ use Rattle.std.specs.Prelude.{slice_get}
 use Rattle.std.specs.Option.{option_map}
 use Rattle.serve_links.specs.declared.settings.LinkLimits.{LinkLimits}
 use Rattle.serve_links.specs.declared.link.Link.{Link}
-use Rattle.serve_links.specs.CoreSteps.{Obstacle, WaitedLong, StoreLate, ForeignCame, LeftAlone, Unseen, Step, Opened, NotOpened, Fed, Polled, Stopped, Settled, Gave, Closed, LeftLine, Broke, Ticked, Loaded, Linked, Asked, Greeted, Spelled, Late, CameLate, Lost, Noted, StepsAreOf}
+use Rattle.serve_links.specs.CoreSteps.{Obstacle, WaitedLong, StoreLate, ForeignCame, LeftAlone, ManyWait, Step, Opened, NotOpened, Fed, Polled, Stopped, Settled, Gave, Closed, LeftLine, Broke, Ticked, Loaded, Linked, Asked, Greeted, Spelled, Late, CameLate, Lost, Noted, StepsAreOf}
 use Rattle.serve_links.specs.Talks.{IsOfClients, IsOfServer}
 use Rattle.serve_links.specs.Story.{address_and_opened, address_and_limits, server_and_opened, servers_of, most_of, ObstacleIsByLimit, IsByLimit, KeepsServer, KeepsServers}
 use Rattle.serve_links.proofs.Talking.{clients_plain}
@@ -51,7 +51,7 @@ own_late most most' i (step ∷ steps) same own late = (by step own.0 late.0, ow
     its_obstacle at (StoreLate limit) its is = its_limit (λ (limits : LinkLimits). limits.call_ms) at limit its is
     its_obstacle at ForeignCame its is = tt
     its_obstacle at (LeftAlone limit) its is = its_limit (λ (limits : LinkLimits). limits.fail_limit) at limit its is
-    its_obstacle at (Unseen why) its is = tt
+    its_obstacle at ManyWait its is = tt
 
     by : (s : Step) → IsOfServer i s → IsByLimit most s → IsByLimit most' s
     by (Lost at why limit) its is = its_limit (λ (limits : LinkLimits). limits.connect_ms) at limit its is

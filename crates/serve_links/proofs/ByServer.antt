@@ -21,8 +21,8 @@ use Rattle.core_proxy.proofs.CallsStay.{none_out}
 use Rattle.core_accepted.specs.declared.served.ServedCore.{ServedCore}
 use Rattle.core_accepted.specs.declared.tally.CoreTally.{CoreTally}
 use Rattle.core_accepted.specs.Results.{CountsResult, SettleStops, IsSettled}
-use Rattle.core_accepted.specs.Tallies.{ReplyKind, TellsError, ShowsItem, Acknowledges, TellsOther, reply_kind, one_more, lost_unless, unplaced_at, with_reply, with_note, with_poll, with_call, with_outcome, with_client, with_refusal, with_unshown, AddsPlaces, MakesPlaces, nothing_done}
-use Rattle.serve_links.specs.CoreSteps.{WaitedLong, StoreLate, ForeignCame, LeftAlone, Unseen, Step, Opened, NotOpened, Fed, Polled, Stopped, Settled, Gave, Closed, LeftLine, Loaded, Spelled, Noted, Does, Walks}
+use Rattle.core_accepted.specs.Tallies.{ReplyKind, TellsError, ShowsItem, Acknowledges, TellsOther, reply_kind, one_more, lost_unless, unplaced_at, with_reply, with_note, with_poll, with_call, with_outcome, with_client, with_refusal, AddsPlaces, MakesPlaces, nothing_done}
+use Rattle.serve_links.specs.CoreSteps.{Step, Opened, NotOpened, Fed, Polled, Stopped, Settled, Gave, Closed, LeftLine, Loaded, Spelled, Noted, Does, Walks}
 use Rattle.serve_links.specs.Called.{call_in, TellsCallsOut}
 use Rattle.serve_links.specs.Talks.{MayComeNext, IsOrderly}
 use Rattle.serve_links.specs.Counts.{number_of, counted, answers_one, fails_one}
@@ -215,12 +215,7 @@ step_counted (Closed client) past a b tells may does was = kept (Closed client) 
 step_counted (LeftLine client) past a b tells may does was = kept (LeftLine client) past a.tally b.tally (λ server. refl) (λ is server. refl) (unchanged a.tally b.tally does.1.tally) was
 step_counted (Spelled at number ask answer bytes) past a b tells may does was =
     kept (Spelled at number ask answer bytes) past a.tally b.tally (λ server. refl) (λ is server. refl) (unchanged a.tally b.tally (tally_same a b does.0)) was
-step_counted (Noted at (WaitedLong number limit)) past a b tells may does was = kept (Noted at (WaitedLong number limit)) past a.tally b.tally (λ server. refl) (λ is server. refl) (unchanged a.tally b.tally (tally_same a b does)) was
-step_counted (Noted at (StoreLate limit)) past a b tells may does was = kept (Noted at (StoreLate limit)) past a.tally b.tally (λ server. refl) (λ is server. refl) (unchanged a.tally b.tally (tally_same a b does)) was
-step_counted (Noted at (LeftAlone limit)) past a b tells may does was = kept (Noted at (LeftAlone limit)) past a.tally b.tally (λ server. refl) (λ is server. refl) (unchanged a.tally b.tally (tally_same a b does)) was
-step_counted (Noted at ForeignCame) past a b tells may does was = kept (Noted at ForeignCame) past a.tally b.tally (λ server. refl) (λ is server. refl) (unchanged a.tally b.tally (tally_same a b does)) was
-step_counted (Noted at (Unseen why)) past a b tells may does was =
-    kept (Noted at (Unseen why)) past a.tally b.tally (λ server. refl) (λ is server. refl) (by_count a.tally b.tally (with_unshown why) (record { calls = refl; answered = refl; failed = refl; unplaced = refl }) does.1.tally) was
+step_counted (Noted at obstacle) past a b tells may does was = kept (Noted at obstacle) past a.tally b.tally (λ server. refl) (λ is server. refl) (unchanged a.tally b.tally (tally_same a b does)) was
 step_counted step past a b tells may does was = kept step past a.tally b.tally (λ server. refl) (λ is server. refl) (unchanged a.tally b.tally (tally_same a b does)) was
 
 walk_counted :

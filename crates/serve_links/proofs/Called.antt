@@ -14,7 +14,7 @@ use Rattle.core_proxy.specs.CallsStay.{CanStand, called, KeepsCalls, GivesCall, 
 use Rattle.core_proxy.proofs.CallsStay.{calls_stay}
 use Rattle.core_accepted.specs.declared.served.ServedCore.{ServedCore}
 use Rattle.core_accepted.specs.Results.{SettleStops, IsSettled}
-use Rattle.serve_links.specs.CoreSteps.{Obstacle, WaitedLong, StoreLate, ForeignCame, LeftAlone, Unseen, Notes, Step, Opened, NotOpened, Fed, Polled, Stopped, Settled, Gave, Closed, LeftLine, Broke, Ticked, Loaded, Linked, Asked, Greeted, Spelled, Late, CameLate, Lost, Noted, Does, Walks}
+use Rattle.serve_links.specs.CoreSteps.{Step, Opened, NotOpened, Fed, Polled, Stopped, Settled, Gave, Closed, LeftLine, Broke, Ticked, Loaded, Linked, Asked, Greeted, Spelled, Late, CameLate, Lost, Noted, Does, Walks}
 use Rattle.serve_links.specs.Called.{call_in, TellsCallsOut, GivesOnce, GiveOnce, WalksTellCalls}
 
 law : CallsStay
@@ -96,14 +96,6 @@ asks_told past core number at said ask tells is asks = inside (sym asks ∙ law.
 keep : (step : Step) (past : List Step) (new : ServedCore) → ((n : ℕ) → call_in (step ∷ past) n ≡ call_in past n) → TellsCallsOut past new → TellsCallsOut (step ∷ past) new
 keep step past new same k = record { stands = k.stands; calls = λ n call is. k.calls n call (sym (same n) ∙ is) }
 
--- what is noted leaves the core's calls as they are
-noted_core : (obstacle : Obstacle) (old new : ServedCore) → Notes obstacle old new → new.core ≡ old.core
-noted_core (WaitedLong number limit) old new does = ap (λ (c : ServedCore). c.core) does
-noted_core (StoreLate limit) old new does = ap (λ (c : ServedCore). c.core) does
-noted_core (LeftAlone limit) old new does = ap (λ (c : ServedCore). c.core) does
-noted_core ForeignCame old new does = ap (λ (c : ServedCore). c.core) does
-noted_core (Unseen why) old new does = does.0
-
 same_calls : (past : List Step) (old new : ServedCore) → new.core ≡ old.core → TellsCallsOut past old → TellsCallsOut past new
 same_calls past old new same was = record {
   stands = subst (λ (c : Core). CanStand c) (sym same) was.stands;
@@ -127,7 +119,7 @@ step_goes (Loaded configuration generation) past old new was does =
 step_goes (Linked at dialect) past old new was does = (keep (Linked at dialect) past new (λ n. refl) (stayed past old new was does), tt)
 step_goes (Asked at number dialect ask since) past old new was does = (keep (Asked at number dialect ask since) past new (λ n. refl) (stayed past old new was does), tt)
 step_goes (Greeted at dialect bytes) past old new was does = (keep (Greeted at dialect bytes) past new (λ n. refl) (stayed past old new was does), tt)
-step_goes (Noted at obstacle) past old new was does = (keep (Noted at obstacle) past new (λ n. refl) (same_calls past old new (noted_core obstacle old new does) was), tt)
+step_goes (Noted at obstacle) past old new was does = (keep (Noted at obstacle) past new (λ n. refl) (same_calls past old new (ap (λ (c : ServedCore). c.core) does) was), tt)
 step_goes (Late at number limit now) past old new was does = (keep (Late at number limit now) past new (λ n. refl) (stayed past old new was does), tt)
 step_goes (CameLate at number ask answer bytes) past old new was does = (keep (CameLate at number ask answer bytes) past new (λ n. refl) (stayed past old new was does), tt)
 step_goes (Spelled at number ask answer bytes) past old new was does =

@@ -20,14 +20,12 @@ use Rattle.core_proxy.proofs.CallsStay.{none_out}
 use Rattle.core_commands.specs.declared.ticket.Ticket.{Ticket}
 use Rattle.core_accepted.specs.declared.served.ServedCore.{ServedCore}
 use Rattle.core_accepted.specs.declared.tally.CoreTally.{CoreTally}
-use Rattle.core_accepted.specs.declared.tally.Unshown.{Unshown}
-use Rattle.core_accepted.specs.declared.tally.Unshown.TheVariants as unshown
 use Rattle.core_accepted.specs.Results.{PollStops, SettleStops, IsSettled}
-use Rattle.core_accepted.specs.Tallies.{ReplyKind, TellsError, ShowsItem, Acknowledges, TellsOther, reply_kind, one_more, more_at, with_reply, with_note, with_poll, with_call, with_bad_message, with_outcome, with_client, with_refusal, with_unshown, unshown_number, nothing_done, of_op, of_unshown, MakesPlaces}
-use Rattle.serve_links.specs.CoreSteps.{WaitedLong, StoreLate, ForeignCame, LeftAlone, Unseen, Step, Opened, NotOpened, Fed, Polled, Stopped, Settled, Gave, Closed, LeftLine, Loaded, Spelled, Noted, Does, Walks}
+use Rattle.core_accepted.specs.Tallies.{ReplyKind, TellsError, ShowsItem, Acknowledges, TellsOther, reply_kind, one_more, more_at, with_reply, with_note, with_poll, with_call, with_bad_message, with_outcome, with_client, with_refusal, nothing_done, of_op, MakesPlaces}
+use Rattle.serve_links.specs.CoreSteps.{Step, Opened, NotOpened, Fed, Polled, Stopped, Settled, Gave, Closed, LeftLine, Loaded, Spelled, Noted, Does, Walks}
 use Rattle.serve_links.specs.Called.{TellsCallsOut}
 use Rattle.serve_links.specs.Talks.{MayComeNext, IsOrderly}
-use Rattle.serve_links.specs.Counts.{number_of, counted, same_kind, opens_one, refuses_one, refuses_message, ends_one, ends_so, calls_one, answers_one, fails_one, notes_one, count_of, AreCounted, ResultsAreCounted, NotesAreCounted, StepsAreCounted}
+use Rattle.serve_links.specs.Counts.{number_of, counted, same_kind, opens_one, refuses_one, refuses_message, ends_one, ends_so, calls_one, answers_one, fails_one, count_of, AreCounted, ResultsAreCounted, StepsAreCounted}
 use Rattle.serve_links.proofs.Called.{walks_tell_calls}
 
 -- ---- one more
@@ -155,12 +153,6 @@ did client note past old new is was = subst (AreCounted (Polled client (polls.Di
   places = places_kept (reply_kind note) note.ask.op old was.places;
 })
 
--- by what nothing shows nothing else is counted
-noted : (at : ℕ) (why : Unshown) (past : List Step) (old new : CoreTally) → new ≡ with_unshown why old → AreCounted past old → AreCounted (Noted at (Unseen why) ∷ past) new
-noted at why past old new is was =
-    subst (AreCounted (Noted at (Unseen why) ∷ past)) (sym is)
-    (record { opened = was.opened; refused = was.refused; bad_messages = was.bad_messages; ended = was.ended; calls = was.calls; replies = λ op kind. was.replies op kind; places = was.places })
-
 pub tally_same : (a b : ServedCore) → b ≡ a → b.tally ≡ a.tally
 tally_same a b same = ap (λ (x : ServedCore). x.tally) same
 
@@ -253,11 +245,7 @@ step_counted (Closed client) past a b does was = kept (Closed client) past a.tal
 step_counted (LeftLine client) past a b does was = kept (LeftLine client) past a.tally b.tally refl refl refl refl refl (λ op kind. refl) does.1.tally was
 step_counted (Loaded configuration generation) past a b does was = loaded configuration generation past a.tally b.tally does.tally was
 step_counted (Spelled at number ask answer bytes) past a b does was = kept (Spelled at number ask answer bytes) past a.tally b.tally refl refl refl refl refl (λ op kind. refl) (tally_same a b does.0) was
-step_counted (Noted at (WaitedLong number limit)) past a b does was = kept (Noted at (WaitedLong number limit)) past a.tally b.tally refl refl refl refl refl (λ op kind. refl) (tally_same a b does) was
-step_counted (Noted at (StoreLate limit)) past a b does was = kept (Noted at (StoreLate limit)) past a.tally b.tally refl refl refl refl refl (λ op kind. refl) (tally_same a b does) was
-step_counted (Noted at (LeftAlone limit)) past a b does was = kept (Noted at (LeftAlone limit)) past a.tally b.tally refl refl refl refl refl (λ op kind. refl) (tally_same a b does) was
-step_counted (Noted at ForeignCame) past a b does was = kept (Noted at ForeignCame) past a.tally b.tally refl refl refl refl refl (λ op kind. refl) (tally_same a b does) was
-step_counted (Noted at (Unseen why)) past a b does was = noted at why past a.tally b.tally does.1.tally was
+step_counted (Noted at obstacle) past a b does was = kept (Noted at obstacle) past a.tally b.tally refl refl refl refl refl (λ op kind. refl) (tally_same a b does) was
 step_counted step past a b does was = kept step past a.tally b.tally refl refl refl refl refl (λ op kind. refl) (tally_same a b does) was
 
 -- ---- all of them
@@ -337,11 +325,7 @@ result_counted (Closed client) past a b tells may does was = by_none (Closed cli
 result_counted (LeftLine client) past a b tells may does was = by_none (LeftLine client) past a.tally b.tally refl refl does.1.tally was
 result_counted (Loaded configuration generation) past a b tells may does was = result_loaded configuration generation past a.tally b.tally does.tally was
 result_counted (Spelled at number ask answer bytes) past a b tells may does was = by_none (Spelled at number ask answer bytes) past a.tally b.tally refl refl (tally_same a b does.0) was
-result_counted (Noted at (WaitedLong number limit)) past a b tells may does was = by_none (Noted at (WaitedLong number limit)) past a.tally b.tally refl refl (tally_same a b does) was
-result_counted (Noted at (StoreLate limit)) past a b tells may does was = by_none (Noted at (StoreLate limit)) past a.tally b.tally refl refl (tally_same a b does) was
-result_counted (Noted at (LeftAlone limit)) past a b tells may does was = by_none (Noted at (LeftAlone limit)) past a.tally b.tally refl refl (tally_same a b does) was
-result_counted (Noted at ForeignCame) past a b tells may does was = by_none (Noted at ForeignCame) past a.tally b.tally refl refl (tally_same a b does) was
-result_counted (Noted at (Unseen why)) past a b tells may does was = by_count (Noted at (Unseen why)) past (with_unshown why) a.tally b.tally refl refl (refl, refl) does.1.tally was
+result_counted (Noted at obstacle) past a b tells may does was = by_none (Noted at obstacle) past a.tally b.tally refl refl (tally_same a b does) was
 result_counted step past a b tells may does was = by_none step past a.tally b.tally refl refl (tally_same a b does) was
 
 walk_results :
@@ -379,96 +363,5 @@ begins_counted tally makes = subst (AreCounted []) (sym makes.rest) (record { op
 begins_results : (tally : CoreTally) → MakesPlaces nothing_done tally → ResultsAreCounted [] tally
 begins_results tally makes = subst (ResultsAreCounted []) (sym makes.rest) (record { answered = refl; failed = refl })
 
--- ---- what nothing shows
-
--- of a step by which none of it is counted
-by_no_note : (step : Step) (past : List Step) (old new : CoreTally) → ((why : Unshown) → notes_one why step ≡ false) → new.unshown ≡ old.unshown → NotesAreCounted past old → NotesAreCounted (step ∷ past) new
-by_no_note step past old new none same was = record {
-  places = ap length same ∙ was.places;
-  noted = λ why. ap (λ counts. slice_index counts (unshown_number why)) same ∙ was.noted why ∙ not_so (notes_one why) step past (none why);
-}
-
--- one more was noted
-unshown_within : (why : Unshown) → unshown_number why < 2
-unshown_within unshown.NoMemory = omega arith
-unshown_within unshown.NoRoom = omega arith
-
-by_note : (at : ℕ) (why : Unshown) (past : List Step) (old new : CoreTally) → new ≡ with_unshown why old → NotesAreCounted past old → NotesAreCounted (Noted at (Unseen why) ∷ past) new
-by_note at why past old new is was = subst (NotesAreCounted (Noted at (Unseen why) ∷ past)) (sym is) (record {
-  places = length-set old.unshown (unshown_number why) (one_more (slice_index old.unshown (unshown_number why))) ∙ was.places;
-  noted = λ other. at_place old.unshown (unshown_number why) (unshown_number other) (number_of (notes_one other) past) (nat_eq (unshown_number why) (unshown_number other)) refl (let within = unshown_within why in let len = was.places in omega (arith, within, len)) (was.noted other);
-})
-
-reply_unshown : (said : ReplyKind) (done : Op) (tally : CoreTally) → (with_reply said done tally).unshown ≡ tally.unshown
-reply_unshown TellsError done tally = refl
-reply_unshown ShowsItem done tally = refl
-reply_unshown Acknowledges done tally = refl
-reply_unshown TellsOther done tally = refl
-
-poll_unshown : (poll : Poll) (tally : CoreTally) → (with_poll poll tally).unshown ≡ tally.unshown
-poll_unshown (polls.Did note) tally = reply_unshown (reply_kind note) note.ask.op tally
-poll_unshown polls.Idle tally = refl
-poll_unshown polls.Own tally = refl
-poll_unshown polls.Refused tally = refl
-poll_unshown (polls.Call ticket) tally = refl
-poll_unshown polls.Waiting tally = refl
-poll_unshown polls.Queued tally = refl
-poll_unshown polls.Busy tally = refl
-
-result_unshown : (server : Option ℕ) (outcome : Outcome) (tally : CoreTally) → (with_outcome server outcome tally).unshown ≡ tally.unshown
-result_unshown None (Answered answer) tally = refl
-result_unshown None Failed tally = refl
-result_unshown (Some server) (Answered answer) tally = refl
-result_unshown (Some server) Failed tally = refl
-
-unshown_by : (old new : CoreTally) (count : CoreTally → CoreTally) → (count old).unshown ≡ old.unshown → new ≡ count old → new.unshown ≡ old.unshown
-unshown_by old new count same is = ap (λ (t : CoreTally). t.unshown) is ∙ same
-
-settle_unshown : (number : ℕ) (outcome : Outcome) (fault : CoreFault) (a b : ServedCore) → SettleStops a number outcome fault b → b.tally.unshown ≡ a.tally.unshown
-settle_unshown number outcome faults.NoMemory a b stops = unshown_by a.tally b.tally (with_outcome stops.counts.server outcome) (result_unshown stops.counts.server outcome a.tally) stops.counts.tally
-settle_unshown number outcome faults.NoClient a b stops = absurd stops
-settle_unshown number outcome faults.Spent a b stops = absurd stops
-settle_unshown number outcome faults.TooManyClients a b stops = absurd stops
-settle_unshown number outcome faults.InputFull a b stops = absurd stops
-settle_unshown number outcome faults.UnderWay a b stops = absurd stops
-settle_unshown number outcome faults.NoTicket a b stops = ap (λ (x : ServedCore). x.tally.unshown) stops.1
-
-settled_unshown : (number : ℕ) (outcome : Outcome) (a b : ServedCore) → IsSettled a number outcome b → b.tally.unshown ≡ a.tally.unshown
-settled_unshown number outcome a b (inl takes) = unshown_by a.tally b.tally (with_outcome takes.counts.server outcome) (result_unshown takes.counts.server outcome a.tally) takes.counts.tally
-settled_unshown number outcome a b (inr stops) = settle_unshown number outcome stops.0 a b stops.1
-
-by_all : {old new : CoreTally} → new ≡ old → new.unshown ≡ old.unshown
-by_all same = ap (λ (t : CoreTally). t.unshown) same
-
-note_counted : (step : Step) (past : List Step) (a b : ServedCore) → Does step a b → NotesAreCounted past a.tally → NotesAreCounted (step ∷ past) b.tally
-note_counted (Noted at (Unseen why)) past a b does was = by_note at why past a.tally b.tally does.1.tally was
-note_counted (Noted at (WaitedLong number limit)) past a b does was = by_no_note (Noted at (WaitedLong number limit)) past a.tally b.tally (λ why. refl) (by_all (tally_same a b does)) was
-note_counted (Noted at (StoreLate limit)) past a b does was = by_no_note (Noted at (StoreLate limit)) past a.tally b.tally (λ why. refl) (by_all (tally_same a b does)) was
-note_counted (Noted at (LeftAlone limit)) past a b does was = by_no_note (Noted at (LeftAlone limit)) past a.tally b.tally (λ why. refl) (by_all (tally_same a b does)) was
-note_counted (Noted at ForeignCame) past a b does was = by_no_note (Noted at ForeignCame) past a.tally b.tally (λ why. refl) (by_all (tally_same a b does)) was
-note_counted (Opened client) past a b does was = by_no_note (Opened client) past a.tally b.tally (λ why. refl) (unshown_by a.tally b.tally with_client refl does.2.tally) was
-note_counted (NotOpened fault) past a b does was = by_no_note (NotOpened fault) past a.tally b.tally (λ why. refl) (unshown_by a.tally b.tally with_refusal refl does.1.tally) was
-note_counted (Polled client poll) past a b does was = by_no_note (Polled client poll) past a.tally b.tally (λ why. refl) (unshown_by a.tally b.tally (with_poll poll) (poll_unshown poll a.tally) does.1.tally) was
-note_counted (Settled number outcome) past a b does was = by_no_note (Settled number outcome) past a.tally b.tally (λ why. refl) (settled_unshown number outcome a b does) was
-note_counted (Fed client piece) past a b does was = by_no_note (Fed client piece) past a.tally b.tally (λ why. refl) (by_all does.2.tally) was
-note_counted (Stopped client fault) past a b does was = by_no_note (Stopped client fault) past a.tally b.tally (λ why. refl) (by_all (stopped_same client fault a b does.1)) was
-note_counted (Gave client bytes) past a b does was = by_no_note (Gave client bytes) past a.tally b.tally (λ why. refl) (by_all does.1.tally) was
-note_counted (Closed client) past a b does was = by_no_note (Closed client) past a.tally b.tally (λ why. refl) (by_all does.2.tally) was
-note_counted (LeftLine client) past a b does was = by_no_note (LeftLine client) past a.tally b.tally (λ why. refl) (by_all does.1.tally) was
-note_counted (Loaded configuration generation) past a b does was = by_no_note (Loaded configuration generation) past a.tally b.tally (λ why. refl) (ap (λ (t : CoreTally). t.unshown) does.tally.rest) was
-note_counted (Spelled at number ask answer bytes) past a b does was = by_no_note (Spelled at number ask answer bytes) past a.tally b.tally (λ why. refl) (by_all (tally_same a b does.0)) was
-note_counted step past a b does was = by_no_note step past a.tally b.tally (λ why. refl) (by_all (tally_same a b does)) was
-
-walk_notes : (steps past : List Step) (old new : ServedCore) → Walks steps old new → NotesAreCounted past old.tally → NotesAreCounted (steps ++ past) new.tally
-walk_notes [] past old new same was = subst (NotesAreCounted past) (sym (tally_same old new same)) was
-walk_notes (step ∷ steps) past old new walks was = note_counted step (steps ++ past) walks.0 new walks.2 (walk_notes steps past old walks.0 walks.1 was)
-
-none_noted : (why : Unshown) → of_unshown nothing_done why ≡ counted 0
-none_noted unshown.NoMemory = refl
-none_noted unshown.NoRoom = refl
-
-begins_notes : (tally : CoreTally) → MakesPlaces nothing_done tally → NotesAreCounted [] tally
-begins_notes tally makes = subst (NotesAreCounted []) (sym makes.rest) (record { places = refl; noted = none_noted })
-
 pub steps_are_counted : StepsAreCounted
-steps_are_counted = record { begins = begins_counted; goes_on = walk_counted; results_begin = begins_results; results_go_on = walk_results; notes_begin = begins_notes; notes_go_on = walk_notes }
+steps_are_counted = record { begins = begins_counted; goes_on = walk_counted; results_begin = begins_results; results_go_on = walk_results }

@@ -46,7 +46,7 @@ conn_state c = (c.number, c.held.items, bytes_of c.unsent)
 pub late_kept : (x y : Link) → y ≡ record x { late = y.late } → y.late.items ≡ x.late.items → line_of y ≡ line_of x
 late_kept x y is late =
     ap line_of is
-    ∙ ap (λ (l : List LateCall). let s : LineState = (server_and_opened x, option_map {U = ℕ × List ℕ × List ℕ} conn_state x.conn, said_asks x.calls.sent.items, x.waiting.items, x.awaits_dialect, x.dialect, said_late l, drain_of x) in s) late
+    ∙ ap (λ (l : List LateCall). let s : LineState = (server_and_opened x, option_map {U = ℕ × List ℕ × List ℕ} conn_state x.conn, said_asks x.calls.sent.items, x.waiting, x.awaits_dialect, x.dialect, said_late l, drain_of x) in s) late
 
 pub some_conn : (o : Option Conn) → is_some o ≡ true → (c : Conn) × (o ≡ Some c)
 some_conn None is = absurd (false_true is)
@@ -166,7 +166,7 @@ talk_turns h at begun t c held unsent first rest late awaits dialect was = recor
 
 -- the first call that is out fails, and keeps its place
 turns :
-    {at : ℕ} {core core' : ServedCore} {h : List WireEvent} (x y : Link) (c : Conn) (call : SentCall) (rest : List SentCall) → x.conn ≡ Some c → y.conn ≡ x.conn → y.draining ≡ x.draining → server_and_opened y ≡ server_and_opened x → y.waiting.items ≡ x.waiting.items
+    {at : ℕ} {core core' : ServedCore} {h : List WireEvent} (x y : Link) (c : Conn) (call : SentCall) (rest : List SentCall) → x.conn ≡ Some c → y.conn ≡ x.conn → y.draining ≡ x.draining → server_and_opened y ≡ server_and_opened x → y.waiting ≡ x.waiting
     → y.awaits_dialect ≡ x.awaits_dialect → y.dialect ≡ x.dialect → x.calls.sent.items ≡ call ∷ rest → y.calls.sent.items ≡ rest → y.late.items ≡ x.late.items ++ as_late call ∷ []
     → IsSettled core call.ticket.number Failed core' → HasOneLate (time h) x → LineGoes IsSending at core h x core' h y
 turns {at} {core} {core'} {h} x y c call rest was same draining place waiting awaits speaks sent left late settled waited = record {
@@ -210,8 +210,8 @@ turns {at} {core} {core'} {h} x y c call rest was same draining place waiting aw
     is_late : (past : List Step) → WasLate call.ticket.number (step ∷ past)
     is_late past = record { at = at; limit = x.limits.call_ms; now = time h; later = []; earlier = past; was = refl }
 
-    others : (past : List Step) → LineAgrees at past h x → SentGone at past (steps ++ past) rest x.waiting.items
-    others past a = sent_gone at past (steps ++ past) (call ∷ []) rest x.waiting.items (keeps_settled (step ∷ past) call.ticket.number Failed call.dialect call.ticket.ask call.since) (called past a) a.due
+    others : (past : List Step) → LineAgrees at past h x → SentGone at past (steps ++ past) rest x.waiting
+    others past a = sent_gone at past (steps ++ past) (call ∷ []) rest x.waiting (keeps_settled (step ∷ past) call.ticket.number Failed call.dialect call.ticket.ask call.since) (called past a) a.due
 
     agreed : (past : List Step) → LineAgrees at past h x → LineAgrees at (steps ++ past) h y
     agreed past a =
@@ -219,13 +219,13 @@ turns {at} {core} {core'} {h} x y c call rest was same draining place waiting aw
         let before = talk_as refl refl refl refl refl (sym (ap said_asks sent)) refl refl refl (a.conn c was) in
         let now = talk_turns h at (address_and_opened x) (talk_in past at) c.number c.held.items (bytes_of c.unsent) (call.ticket.number, call.dialect, call.ticket.ask, call.since) (said_asks rest) (said_late x.late.items) x.awaits_dialect x.dialect before in
         has_conn at (steps ++ past) h y c (same ∙ was) (talk_as (same_opening x y place) talk refl refl refl (ap said_asks left) awaits speaks (ap said_late late ∙ one_more_late x.late.items (as_late call)) now) (a.goes_on c was)
-        (calls_later steps past at y.waiting.items (subst (λ w. MayAllGo past at w) (sym waiting) a.waiting))
+        (calls_later steps past at y.waiting (subst (λ w. MayAllGo past at w) (sym waiting) a.waiting))
         (subst (λ w. AreDue (steps ++ past) at (said_asks w)) (sym waiting) (others past a).due) (subst (λ (l : List SentCall). AreCalled (steps ++ past) at (said_asks l)) (sym left) (others past a).called) (ap (λ (t : Talk). t.stands) talk ∙ a.used c was)
         (as_tried (same_lost x y place) (ap (λ (t : Talk). t.failed) talk) a.tried)
 
 -- the same of the outcome as a link's calls have it
 pub line_turns :
-    {at : ℕ} {core core' : ServedCore} {h : List WireEvent} (x y : Link) (c : Conn) (call : LateCall) (client : Option ℕ) → x.conn ≡ Some c → y.conn ≡ x.conn → y.draining ≡ x.draining → server_and_opened y ≡ server_and_opened x → y.waiting.items ≡ x.waiting.items
+    {at : ℕ} {core core' : ServedCore} {h : List WireEvent} (x y : Link) (c : Conn) (call : LateCall) (client : Option ℕ) → x.conn ≡ Some c → y.conn ≡ x.conn → y.draining ≡ x.draining → server_and_opened y ≡ server_and_opened x → y.waiting ≡ x.waiting
     → y.awaits_dialect ≡ x.awaits_dialect → y.dialect ≡ x.dialect → IsFirstLate x.calls.sent.items (Some call) → y.late.items ≡ x.late.items ++ call ∷ []
     → SettlesFirst x.calls.sent.items core Failed client y.calls.sent.items core' → HasOneLate (time h) x → LineGoes IsSending at core h x core' h y
 line_turns {at} {core} {core'} {h} x y c call client was same draining place waiting awaits speaks first late settles waited = by x.calls.sent.items refl first settles
@@ -260,7 +260,7 @@ talk_throws h at begun t c spelled held unsent out first rest awaits dialect was
 -- what is held begins with the answer to the first of those that were late: it is held no more
 pub line_throws :
     {at : ℕ} {core : ServedCore} {h : List WireEvent} (x y : Link) (c d : Conn) (call : LateCall) (rest : List LateCall) (answer : Answer) (used : ℕ) → x.conn ≡ Some c → y.conn ≡ Some d → x.awaits_dialect ≡ None
-    → server_and_opened y ≡ server_and_opened x → y.waiting.items ≡ x.waiting.items → y.awaits_dialect ≡ x.awaits_dialect → y.dialect ≡ x.dialect → y.calls.sent.items ≡ x.calls.sent.items → x.late.items ≡ call ∷ rest → y.late.items ≡ rest
+    → server_and_opened y ≡ server_and_opened x → y.waiting ≡ x.waiting → y.awaits_dialect ≡ x.awaits_dialect → y.dialect ≡ x.dialect → y.calls.sent.items ≡ x.calls.sent.items → x.late.items ≡ call ∷ rest → y.late.items ≡ rest
     → SpellsIn call.dialect call.ask c.held.items answer used → d.held.items ≡ drop used c.held.items → d.number ≡ c.number → bytes_of d.unsent ≡ bytes_of c.unsent → LineGoes IsOfTurn at core h x core h y
 line_throws {at} {core} {h} x y c d call rest answer used was is off place waiting awaits speaks sent late left spells held number unsent = record {
   steps = step ∷ [];
@@ -299,14 +299,14 @@ line_throws {at} {core} {h} x y c d call rest answer used was is off place waiti
         let before = talk_as refl refl refl whole refl refl refl refl (sym (ap said_late late)) (a.conn c was) in
         let now = talk_throws h at (address_and_opened x) (talk_in past at) c.number spelled d.held.items (bytes_of c.unsent) (said_asks x.calls.sent.items) (call.number, call.dialect, call.ask, call.since) (said_late rest) x.awaits_dialect x.dialect before in
         has_conn at (step ∷ past) h y d is (talk_as (same_opening x y place) talk number refl unsent (ap said_asks sent) awaits speaks (ap said_late left) now) (ap (λ n. is_over n h) number ∙ a.goes_on c was)
-        (calls_later (step ∷ []) past at y.waiting.items (subst (λ w. MayAllGo past at w) (sym waiting) a.waiting))
-        (due_stays past (step ∷ past) at (said_asks y.waiting.items) (λ n ask is. (refl, refl, refl)) (subst (λ w. AreDue past at (said_asks w)) (sym waiting) a.due))
+        (calls_later (step ∷ []) past at y.waiting (subst (λ w. MayAllGo past at w) (sym waiting) a.waiting))
+        (due_stays past (step ∷ past) at (said_asks y.waiting) (λ n ask is. (refl, refl, refl)) (subst (λ w. AreDue past at (said_asks w)) (sym waiting) a.due))
         (called_stays past (step ∷ past) at (said_asks y.calls.sent.items) (λ n ask is. (refl, refl, refl)) (subst (λ (l : List SentCall). AreCalled past at (said_asks l)) (sym sent) a.called)) (ap (λ (t : Talk). t.stands) talk ∙ a.used c was)
         (as_tried (same_lost x y place) (ap (λ (t : Talk). t.failed) talk) a.tried)
 
 -- or it isn't there
 passes_none :
-    {at : ℕ} {core : ServedCore} {h : List WireEvent} (x y : Link) (c d : Conn) → x.conn ≡ Some c → y.conn ≡ Some d → server_and_opened y ≡ server_and_opened x → y.waiting.items ≡ x.waiting.items → y.awaits_dialect ≡ x.awaits_dialect
+    {at : ℕ} {core : ServedCore} {h : List WireEvent} (x y : Link) (c d : Conn) → x.conn ≡ Some c → y.conn ≡ Some d → server_and_opened y ≡ server_and_opened x → y.waiting ≡ x.waiting → y.awaits_dialect ≡ x.awaits_dialect
     → y.dialect ≡ x.dialect → y.draining ≡ x.draining → y.calls.sent.items ≡ x.calls.sent.items → d ≡ record c { held = d.held } → (y.late.items ≡ x.late.items) × (d.held.items ≡ c.held.items) → LineGoes IsOfTurn at core h x core h y
 passes_none {h = h} x y c d was is place waiting awaits speaks draining sent same kept = line_keeps (quiet h) (of_eight place ends (ap said_asks sent) waiting awaits speaks (ap said_late kept.0) (ap (option_map (λ (z : Conn). z.number)) draining))
   where
@@ -316,7 +316,7 @@ passes_none {h = h} x y c d was is place waiting awaits speaks draining sent sam
         ∙ ap (λ (l : List ℕ). let e : ℕ × List ℕ × List ℕ = (c.number, l, bytes_of c.unsent) in Some e) kept.1 ∙ sym (ap (option_map {U = ℕ × List ℕ × List ℕ} conn_state) was)
 
 pub line_passes :
-    {at : ℕ} {core : ServedCore} {h : List WireEvent} (x y : Link) (c d : Conn) (read : Result ℕ Left) → x.conn ≡ Some c → y.conn ≡ Some d → x.awaits_dialect ≡ None → server_and_opened y ≡ server_and_opened x → y.waiting.items ≡ x.waiting.items
+    {at : ℕ} {core : ServedCore} {h : List WireEvent} (x y : Link) (c d : Conn) (read : Result ℕ Left) → x.conn ≡ Some c → y.conn ≡ Some d → x.awaits_dialect ≡ None → server_and_opened y ≡ server_and_opened x → y.waiting ≡ x.waiting
     → y.awaits_dialect ≡ x.awaits_dialect → y.dialect ≡ x.dialect → y.draining ≡ x.draining → y.calls.sent.items ≡ x.calls.sent.items → d ≡ record c { held = d.held } → PassesOver x.late.items c.held.items read y.late.items d.held.items
     → LineGoes IsOfTurn at core h x core h y
 line_passes x y c d (Ok used) was is off place waiting awaits speaks draining sent same passes =

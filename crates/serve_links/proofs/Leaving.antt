@@ -10,7 +10,7 @@ use Rattle.serve_links.specs.declared.calls.calls.Next.{Next}
 use Rattle.serve_links.specs.declared.calls.calls.Next.TheVariants as nexts
 use Rattle.serve_links.specs.Calls.{AwaitsFirst, IsLeft, SettlesNext}
 use Rattle.serve_links.specs.Dialects.{SpellsIn}
-use Rattle.serve_links.specs.Settled.{HoldsNoAnswer, HoldsForeign, SettlesOne, SettlesEach, SettlesSome, SettlesFront}
+use Rattle.serve_links.specs.Settled.{HoldsNoAnswer, HoldsForeign, SettlesOne, SettlesEach, SettlesSome}
 
 -- more is awaited, and nothing has changed
 pub awaited : (sent : List SentCall) (bytes : List ℕ) (a : ServedCore) (left : Left) (sent' : List SentCall) (b : ServedCore) → left ≡ lefts.Begun → SettlesNext sent bytes a (nexts.Left left) sent' b → HoldsNoAnswer sent' bytes b
@@ -122,39 +122,6 @@ over {s} {x} {a} {t} {y} {b} more f = record {
 pub between :
     {s : List SentCall} {x y : List ℕ} {a : ServedCore} {t : List SentCall} {v w : List ℕ} {b : ServedCore} → y ≡ x → w ≡ v → SettlesSome s x a t v b → SettlesSome s y a t w b
 between {s} {x} {y} {a} {t} {v} {w} {b} e f is = subst (λ (l : List ℕ). SettlesSome s l a t w b) (sym e) (subst (λ (l : List ℕ). SettlesSome s x a t l b) (sym f) is)
-
--- whatever is left of the bytes
-pub in_front : {s : List SentCall} {x : List ℕ} {a : ServedCore} {t : List SentCall} {y : List ℕ} {b : ServedCore} → SettlesSome s x a t y b → SettlesFront s x a t b
-in_front {y = y} f = (y, f)
-
--- nothing was settled
-pub none_front : {s : List SentCall} {x : List ℕ} {a : ServedCore} {t : List SentCall} {b : ServedCore} → t ≡ s → b ≡ a → SettlesFront s x a t b
-none_front {x = x} e c = (x, none e refl c)
-
--- some were, and then others of what was left
-pub front_then :
-    {s : List SentCall} {x : List ℕ} {a : ServedCore} {t : List SentCall} {y : List ℕ} {b : ServedCore} {u : List SentCall} {c : ServedCore} → SettlesSome s x a t y b → SettlesFront t y b u c → SettlesFront s x a u c
-front_then f g = (g.0, both f g.1)
-
--- and nothing was done then
-pub front_to :
-    {s : List SentCall} {x : List ℕ} {a : ServedCore} {t : List SentCall} {b : ServedCore} {u : List SentCall} {c : ServedCore} → u ≡ t → c ≡ b → SettlesFront s x a t b → SettlesFront s x a u c
-front_to e d f = (f.0, both f.1 (none e refl d))
-
--- the first of them was, or not
-pub front_next :
-    (sent : List SentCall) (bytes : List ℕ) (a : ServedCore) (next : Next) (sent' : List SentCall) (b : ServedCore) → SettlesNext sent bytes a next sent' b → SettlesFront sent bytes a sent' b
-front_next sent bytes a (nexts.Settled client used) sent' b is = in_front (one sent bytes a client used sent' (drop used bytes) b refl is)
-front_next sent bytes a (nexts.Left left) sent' b is = none_front is.1 is.2
-
--- more stands after the bytes
-pub front_over :
-    {s : List SentCall} {x : List ℕ} {a : ServedCore} {t : List SentCall} {b : ServedCore} (more : List ℕ) → SettlesFront s x a t b → SettlesFront s (x ++ more) a t b
-front_over more f = (f.0 ++ more, over more f.1)
-
--- the same of equal bytes
-pub front_as : {s : List SentCall} {x y : List ℕ} {a : ServedCore} {t : List SentCall} {b : ServedCore} → y ≡ x → SettlesFront s x a t b → SettlesFront s y a t b
-front_as {s} {x} {y} {a} {t} {b} e f = subst (λ (l : List ℕ). SettlesFront s l a t b) (sym e) f
 
 -- so many bytes that were cut off, and the others
 pub cut_apart : (count : ℕ) (held front rest : List ℕ) → front ≡ take count held → rest ≡ drop count held → held ≡ front ++ rest

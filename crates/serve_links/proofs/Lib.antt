@@ -27,3 +27,4 @@ pub mod LateWalks
 pub mod Counts
 pub mod ByServer
 pub mod Refused
+pub mod Held

@@ -23,16 +23,15 @@ use Rattle.serve_links.specs.declared.link.Opening.{Opening}
 use Rattle.serve_links.specs.declared.link.Opening.TheVariants as opening
 use Rattle.serve_links.specs.declared.link.Link.{Link}
 use Rattle.serve_links.specs.declared.news.Cause.{Cause}
-use Rattle.serve_links.specs.declared.news.Cause.TheVariants as causes
-use Rattle.serve_links.specs.CoreSteps.{Obstacle, Step, Opened, NotOpened, Fed, Polled, Stopped, Settled, Gave, Closed, LeftLine, Broke, Ticked, Loaded, Linked, Asked, Greeted, Spelled, Late, CameLate, Lost, Noted, StepsAreOf, IsOfTurn, IsFailure, IsGivingUp, IsSending}
+use Rattle.serve_links.specs.CoreSteps.{Step, Opened, NotOpened, Fed, Polled, Stopped, Settled, Gave, Closed, LeftLine, Broke, Ticked, Loaded, Linked, Asked, Greeted, Spelled, Late, CameLate, Lost, Noted, StepsAreOf, IsOfTurn, IsFailure, IsGivingUp, IsSending}
 use Rattle.serve_links.specs.Dialects.{asked_in, GreetsAwaited, awaits_flush}
 use Rattle.serve_links.specs.Lines.{first_asked_of, awaits_first, first_dialect, greeting_of, SameLine, KeepsLines, IsNewEnd, HasNewEnd, OpensLink, TakesGreeting, HasLearnt, Learns}
 use Rattle.serve_links.specs.Links.{FailsTo}
 use Rattle.serve_links.specs.Settled.{SettlesSome}
-use Rattle.serve_links.specs.Talks.{SaidAsk, Talk, Apart, InUse, Ending, standing_after, first_talk, with_ask, greeted, given_up, talk_in, failed_after, IsNotedFor, IsAmong, AreDue, AreCalled, AreGivenUp, IsOrderly, IsOfServer}
+use Rattle.serve_links.specs.Talks.{SaidAsk, Talk, Apart, InUse, Ending, standing_after, first_talk, with_ask, greeted, given_up, talk_in, failed_after, IsAmong, AreDue, AreCalled, AreGivenUp, IsOrderly, IsOfServer}
 use Rattle.serve_links.specs.Called.{TellsCallsOut}
 use Rattle.serve_links.proofs.Called.{walks_tell_calls}
-use Rattle.serve_links.specs.Story.{said_asks, said_late, MayGo, MayAllGo, TalkAgrees, Unused, AllGivenUp, ConnAgrees, LineAgrees, LineLost, LineFails, LineLeaves, ShowsWhy, WasShown, StepsAreShown, LineCalled, address_and_opened, address_and_limits, server_and_opened, LineState, line_of, KeepsOthers, LeavesCalls, LineGoesFrom, LineGoes}
+use Rattle.serve_links.specs.Story.{said_asks, said_late, MayGo, MayAllGo, TalkAgrees, Unused, AllGivenUp, ConnAgrees, LineAgrees, LineLost, LineFails, ShowsWhy, WasShown, StepsAreShown, LineCalled, address_and_opened, address_and_limits, server_and_opened, LineState, line_of, KeepsOthers, LeavesCalls, LineGoesFrom, LineGoes}
 use Rattle.serve_links.proofs.Talking.{calls_later, one_more, IsPlain, plain_talk, sent_out, waiting_out, all_given_later, given_parts, given_now, sent_fail, waiting_fail, FailsInOrder, fail_in_order}
 use Rattle.serve_links.proofs.Due.{due_stays, called_stays, leaves_twice, due_behind, due_taken, SentGone, sent_gone, waiting_gone, AskedOne, asked_one}
 use Rattle.serve_links.proofs.Walked.{walked, of_both}
@@ -90,12 +89,12 @@ pub as_tried : {l l' n n' : ℕ} → l' ≡ l → n' ≡ n → l ≤ n → l' �
 as_tried {l} {l'} {n} {n'} less more was = subst (λ k. k ≤ n') (sym less) (subst (λ k. l ≤ k) (sym more) was)
 
 -- a link that has this connection
-pub has_conn : (at : ℕ) (past : List Step) (h : List WireEvent) (y : Link) (d : Conn) → y.conn ≡ Some d → ConnAgrees at past h y d d.held.items → is_over d.number h ≡ false → MayAllGo past at y.waiting.items → AreDue past at (said_asks y.waiting.items) → AreCalled past at (said_asks y.calls.sent.items)
+pub has_conn : (at : ℕ) (past : List Step) (h : List WireEvent) (y : Link) (d : Conn) → y.conn ≡ Some d → ConnAgrees at past h y d d.held.items → is_over d.number h ≡ false → MayAllGo past at y.waiting → AreDue past at (said_asks y.waiting) → AreCalled past at (said_asks y.calls.sent.items)
     → (talk_in past at).stands ≡ InUse → y.lost ≤ (talk_in past at).failed → LineAgrees at past h y
 has_conn at past h y d is agrees goes_on waiting due called used tried = record { conn = λ conn there. subst (λ (z : Conn). ConnAgrees at past h y z z.held.items) (same_some (sym is ∙ there)) agrees; goes_on = λ conn there. subst (λ (z : Conn). is_over z.number h ≡ false) (same_some (sym is ∙ there)) goes_on; waiting = waiting; due = due; none_out = λ none. absurd (none_some (sym none ∙ is)); unused = λ none. absurd (none_some (sym none ∙ is)); called = called; used = λ conn there. used; tried = tried }
 
 -- and one that has none
-pub has_none : (at : ℕ) (past : List Step) (h : List WireEvent) (y : Link) → y.conn ≡ None → MayAllGo past at y.waiting.items → AreDue past at (said_asks y.waiting.items) → AllGivenUp past at (said_asks y.calls.sent.items) → Unused h at y.text.items (talk_in past at) (drain_of y) → AreCalled past at (said_asks y.calls.sent.items)
+pub has_none : (at : ℕ) (past : List Step) (h : List WireEvent) (y : Link) → y.conn ≡ None → MayAllGo past at y.waiting → AreDue past at (said_asks y.waiting) → AllGivenUp past at (said_asks y.calls.sent.items) → Unused h at y.text.items (talk_in past at) (drain_of y) → AreCalled past at (said_asks y.calls.sent.items)
     → y.lost ≤ (talk_in past at).failed → LineAgrees at past h y
 has_none at past h y is waiting due out unused called tried = record { conn = λ conn there. absurd (none_some (sym is ∙ there)); goes_on = λ conn there. absurd (none_some (sym is ∙ there)); waiting = waiting; due = due; none_out = λ none. out; unused = λ none. unused; called = called; used = λ conn there. absurd (none_some (sym is ∙ there)); tried = tried }
 
@@ -227,7 +226,7 @@ of_eight {a = a} {a' = a'} {b = b} {b' = b'} {c = c} {c' = c'} {d = d} {d' = d'}
 -- what a link's own functions leave as it was
 pub keeps_line : (x y : Link) → KeepsLines x y → line_of y ≡ line_of x
 keeps_line x y k =
-    of_eight (same_place x y (ap (λ t. t.items) k.text) k.limits k.opened k.lost) (conns x.conn y.conn k.conn) (ap (λ c. said_asks c.sent.items) k.calls) (ap (λ w. w.items) k.waiting) k.awaits k.dialect (ap (λ w. said_late w.items) k.late) k.draining
+    of_eight (same_place x y (ap (λ t. t.items) k.text) k.limits k.opened k.lost) (conns x.conn y.conn k.conn) (ap (λ c. said_asks c.sent.items) k.calls) k.waiting k.awaits k.dialect (ap (λ w. said_late w.items) k.late) k.draining
   where
     ends : (c d : Conn) → d.number ≡ c.number → d.held.items ≡ c.held.items → bytes_of d.unsent ≡ bytes_of c.unsent → ◌≡◌ {A = ℕ × List ℕ × List ℕ} (d.number, d.held.items, bytes_of d.unsent) (c.number, c.held.items, bytes_of c.unsent)
     ends c d n l u =
@@ -259,8 +258,8 @@ talk_reads h h' at begun t c held held' unsent out awaits dialect r was = record
 
 -- what agrees but for its connection is over, and shows why
 pub over_so :
-    (why : Option Cause) (at : ℕ) (past : List Step) (h : List WireEvent) (y : Link) (d : Conn) → y.conn ≡ Some d → ConnAgrees at past h y d d.held.items → ShowsWhy why y.limits.connect_ms (talk_in past at) d.number h → MayAllGo past at y.waiting.items
-    → AreDue past at (said_asks y.waiting.items) → AreCalled past at (said_asks y.calls.sent.items) → (talk_in past at).stands ≡ InUse → y.lost ≤ (talk_in past at).failed → LineFails why at past h y
+    (why : Option Cause) (at : ℕ) (past : List Step) (h : List WireEvent) (y : Link) (d : Conn) → y.conn ≡ Some d → ConnAgrees at past h y d d.held.items → ShowsWhy why y.limits.connect_ms (talk_in past at) d.number h → MayAllGo past at y.waiting
+    → AreDue past at (said_asks y.waiting) → AreCalled past at (said_asks y.calls.sent.items) → (talk_in past at).stands ≡ InUse → y.lost ≤ (talk_in past at).failed → LineFails why at past h y
 over_so why at past h y d is agrees shows waiting due called used tried = record {
   lost = record { conn = λ conn there. (conn.held.items, subst (λ (z : Conn). ConnAgrees at past h y z z.held.items) (same_some (sym is ∙ there)) agrees); waiting = waiting; due = due; none_out = λ none. absurd (none_some (sym none ∙ is)); unused = λ none. absurd (none_some (sym none ∙ is)); called = called; used = λ conn there. used; tried = tried };
   shows = λ conn there. subst (λ (z : Conn). ShowsWhy why y.limits.connect_ms (talk_in past at) z.number h) (same_some (sym is ∙ there)) shows;
@@ -270,7 +269,7 @@ over_so why at past h y d is agrees shows waiting due called used tried = record
 line_reads_to :
     {After : ℕ → List Step → List WireEvent → Link → Type 0} {Is : Step → Type 0} {at : ℕ} {core : ServedCore} {h h' : List WireEvent} (x y : Link) (c d : Conn) → x.conn ≡ Some c → y ≡ record x { conn = Some d } → d.number ≡ c.number
     → bytes_of d.unsent ≡ bytes_of c.unsent → ReadsOn c.number c.held.items d.held.items h h'
-    → ((past : List Step) → LineAgrees at past h x → ConnAgrees at past h' y d d.held.items → MayAllGo past at y.waiting.items → AreDue past at (said_asks y.waiting.items) → AreCalled past at (said_asks y.calls.sent.items) → (talk_in past at).stands ≡ InUse → y.lost ≤ (talk_in past at).failed → After at past h' y)
+    → ((past : List Step) → LineAgrees at past h x → ConnAgrees at past h' y d d.held.items → MayAllGo past at y.waiting → AreDue past at (said_asks y.waiting) → AreCalled past at (said_asks y.calls.sent.items) → (talk_in past at).stands ≡ InUse → y.lost ≤ (talk_in past at).failed → After at past h' y)
     → LineGoesFrom LineAgrees After Is at core h x core h' y
 line_reads_to {After} {at = at} {h = h} {h' = h'} x y c d was is number unsent r after =
     line_moves refl (only_after c.number h h' r.elsewhere) (shut_used c.number r.elsewhere (conn_is x c was) (ap conn_of is ∙ ap (λ n. Some n) number)) (ap address_and_limits is) (λ past a. (agrees past a, keeps_others c.number (1, at) h h' (a.conn c was).is_to r.same_role r.elsewhere))
@@ -279,7 +278,7 @@ line_reads_to {After} {at = at} {h = h} {h' = h'} x y c d was is number unsent r
     agrees past a =
         let now = talk_reads h h' at (address_and_opened x) (talk_in past at) c.number c.held.items d.held.items (bytes_of c.unsent) (said_asks x.calls.sent.items) x.awaits_dialect x.dialect r (a.conn c was) in
         let conn = talk_as (ap address_and_opened is) refl number refl unsent (ap (λ (z : Link). said_asks z.calls.sent.items) is) (ap (λ (z : Link). z.awaits_dialect) is) (ap (λ (z : Link). z.dialect) is) (ap (λ (z : Link). said_late z.late.items) is) now in
-        let waits = sym (ap (λ (z : Link). z.waiting.items) is) in
+        let waits = sym (ap (λ (z : Link). z.waiting) is) in
         after past a conn (subst (λ w. MayAllGo past at w) waits a.waiting) (subst (λ w. AreDue past at (said_asks w)) waits a.due) (subst (λ l. AreCalled past at l) (sym (ap (λ (z : Link). said_asks z.calls.sent.items) is)) a.called)
         (a.used c was) (as_tried (ap (λ (z : Link). z.lost) is) refl a.tried)
 
@@ -317,7 +316,7 @@ talk_sends h h' at begun t c held unsent unsent' out awaits dialect s was = reco
 line_sends_to :
     {After : ℕ → List Step → List WireEvent → Link → Type 0} {Is : Step → Type 0} {at : ℕ} {core : ServedCore} {h h' : List WireEvent} (x y : Link) (c d : Conn) → x.conn ≡ Some c → y ≡ record x { conn = Some d } → d.number ≡ c.number
     → d.held.items ≡ c.held.items → SendsOn c.number (bytes_of c.unsent) (bytes_of d.unsent) h h'
-    → ((past : List Step) → LineAgrees at past h x → ConnAgrees at past h' y d d.held.items → MayAllGo past at y.waiting.items → AreDue past at (said_asks y.waiting.items) → AreCalled past at (said_asks y.calls.sent.items) → (talk_in past at).stands ≡ InUse → y.lost ≤ (talk_in past at).failed → After at past h' y)
+    → ((past : List Step) → LineAgrees at past h x → ConnAgrees at past h' y d d.held.items → MayAllGo past at y.waiting → AreDue past at (said_asks y.waiting) → AreCalled past at (said_asks y.calls.sent.items) → (talk_in past at).stands ≡ InUse → y.lost ≤ (talk_in past at).failed → After at past h' y)
     → LineGoesFrom LineAgrees After Is at core h x core h' y
 line_sends_to {After} {at = at} {h = h} {h' = h'} x y c d was is number held s after =
     line_moves refl (only_after c.number h h' s.elsewhere) (shut_used c.number s.elsewhere (conn_is x c was) (ap conn_of is ∙ ap (λ n. Some n) number)) (ap address_and_limits is) (λ past a. (agrees past a, keeps_others c.number (1, at) h h' (a.conn c was).is_to s.same_role s.elsewhere))
@@ -326,7 +325,7 @@ line_sends_to {After} {at = at} {h = h} {h' = h'} x y c d was is number held s a
     agrees past a =
         let now = talk_sends h h' at (address_and_opened x) (talk_in past at) c.number c.held.items (bytes_of c.unsent) (bytes_of d.unsent) (said_asks x.calls.sent.items) x.awaits_dialect x.dialect s (a.conn c was) in
         let conn = talk_as (ap address_and_opened is) refl number held refl (ap (λ (z : Link). said_asks z.calls.sent.items) is) (ap (λ (z : Link). z.awaits_dialect) is) (ap (λ (z : Link). z.dialect) is) (ap (λ (z : Link). said_late z.late.items) is) now in
-        let waits = sym (ap (λ (z : Link). z.waiting.items) is) in
+        let waits = sym (ap (λ (z : Link). z.waiting) is) in
         after past a conn (subst (λ w. MayAllGo past at w) waits a.waiting) (subst (λ w. AreDue past at (said_asks w)) waits a.due) (subst (λ l. AreCalled past at l) (sym (ap (λ (z : Link). said_asks z.calls.sent.items) is)) a.called)
         (a.used c was) (as_tried (ap (λ (z : Link). z.lost) is) refl a.tried)
 
@@ -402,8 +401,8 @@ begins at core h h' x y dialect number new noted has = record {
         let first = subst (λ k. TalkAgrees k at (x.text.items, time h) (first_talk dialect (talk_in past at).failed) number [] (first_asked_of dialect) [] (awaits_first dialect) (first_dialect dialect.dialect) []) (sym noted) (first_agrees h at number x.text.items dialect (talk_in past at).failed new) in
         has_conn at (Linked at dialect ∷ past) h' y d e (talk_as begun talk end.0 end.1 end.2 none has.awaits has.speaks (ap said_late has.none_late) first)
         (ap (λ n. is_over n h') end.0 ∙ ap (is_over number) noted ∙ new.goes_on)
-        (calls_later (Linked at dialect ∷ []) past at y.waiting.items (subst (λ w. MayAllGo past at w) (sym (ap (λ w. w.items) has.waiting)) a.waiting))
-        (due_stays past (Linked at dialect ∷ past) at (said_asks y.waiting.items) (λ n ask is. (refl, refl, refl)) (subst (λ w. AreDue past at (said_asks w)) (sym (ap (λ w. w.items) has.waiting)) a.due))
+        (calls_later (Linked at dialect ∷ []) past at y.waiting (subst (λ w. MayAllGo past at w) (sym has.waiting) a.waiting))
+        (due_stays past (Linked at dialect ∷ past) at (said_asks y.waiting) (λ n ask is. (refl, refl, refl)) (subst (λ w. AreDue past at (said_asks w)) (sym has.waiting) a.due))
         (subst (λ l. AreCalled (Linked at dialect ∷ past) at l) (sym none) tt) (ap (λ (t : Talk). t.stands) talk) (as_tried has.lost (ap (λ (t : Talk). t.failed) talk) a.tried)
 
 -- one was begun, and closed
@@ -471,8 +470,8 @@ line_learns {at} {core} {h} x y can l = by l.told
             has_conn at (step ∷ past) h y d is
             (talk_as (ap address_and_opened learnt.rest) talk (ap (λ (z : Conn). z.number) takes.3) refl (ap (λ (z : Conn). bytes_of z.unsent) takes.3) (ap (λ (z : Link). said_asks z.calls.sent.items) learnt.rest) learnt.told refl (ap (λ (z : Link). said_late z.late.items) learnt.rest) now)
             (ap (λ (z : Conn). is_over z.number h) takes.3 ∙ a.goes_on c was)
-            (calls_later (step ∷ []) past at y.waiting.items (subst (λ w. MayAllGo past at w) (sym (ap (λ (z : Link). z.waiting.items) learnt.rest)) a.waiting))
-            (due_stays past (step ∷ past) at (said_asks y.waiting.items) (λ n ask is. (refl, refl, refl)) (subst (λ w. AreDue past at (said_asks w)) (sym (ap (λ (z : Link). z.waiting.items) learnt.rest)) a.due))
+            (calls_later (step ∷ []) past at y.waiting (subst (λ w. MayAllGo past at w) (sym (ap (λ (z : Link). z.waiting) learnt.rest)) a.waiting))
+            (due_stays past (step ∷ past) at (said_asks y.waiting) (λ n ask is. (refl, refl, refl)) (subst (λ w. AreDue past at (said_asks w)) (sym (ap (λ (z : Link). z.waiting) learnt.rest)) a.due))
             (called_stays past (step ∷ past) at (said_asks y.calls.sent.items) (λ n ask is. (refl, refl, refl)) (subst (λ l. AreCalled past at l) (sym (ap (λ (z : Link). said_asks z.calls.sent.items) learnt.rest)) a.called))
             (ap (λ (t : Talk). t.stands) talk ∙ a.used c was) (as_tried (ap (λ (z : Link). z.lost) learnt.rest) (ap (λ (t : Talk). t.failed) talk) a.tried)
 
@@ -517,7 +516,7 @@ line_asks {at} {core} {h} x y c d call was is same alone ready more unsent = rec
   own = (refl, tt);
   walks = (core, refl, refl);
   agrees = λ past o tells a.
-      let one = asked_one at past x.calls.sent.items call x.waiting.items a.0.called a.2 in
+      let one = asked_one at past x.calls.sent.items call x.waiting a.0.called a.2 in
       (((a.1, a.2.0, (a.0.conn c was).late_is ∙ ap said_late alone, ap awaits_flush (a.0.conn c was).awaits_is ∙ ready, a.2.3, a.0.used c was), o), agreed past a.0 one, all_kept (1, at) h h (quiet h), one.others);
   shown = λ past o tells a shown. shown_later (step ∷ []) past h h (tt, tt) (none_since h) shown;
   shut = shut_still (quiet h) (ap conn_of is ∙ ap (λ (z : Conn). Some z.number) same ∙ sym (conn_is x c was));
@@ -527,19 +526,19 @@ line_asks {at} {core} {h} x y c d call was is same alone ready more unsent = rec
     step : Step
     step = Asked at call.ticket.number call.dialect call.ticket.ask call.since
 
-    agreed : (past : List Step) → LineAgrees at past h x → AskedOne at past (step ∷ past) x.calls.sent.items call x.waiting.items → LineAgrees at (step ∷ past) h y
+    agreed : (past : List Step) → LineAgrees at past h x → AskedOne at past (step ∷ past) x.calls.sent.items call x.waiting → LineAgrees at (step ∷ past) h y
     agreed past a one =
         let talk = ap (λ b. if b then with_ask call.ticket.number call.dialect call.ticket.ask call.since (talk_in past at) else talk_in past at) (equal at) in
         let now = talk_asks h at (address_and_opened x) (talk_in past at) c.number c.held.items (bytes_of c.unsent) (said_asks x.calls.sent.items) x.awaits_dialect x.dialect call.ticket.number call.dialect call.ticket.ask call.since (a.conn c was) in
         has_conn at (step ∷ past) h y d (ap (λ (z : Link). z.conn) is)
         (talk_as (ap address_and_opened is) talk (ap (λ (z : Conn). z.number) same) (ap (λ (z : Conn). z.held.items) same) unsent (ap said_asks more ∙ one_said x.calls.sent.items call) (ap (λ (z : Link). z.awaits_dialect) is) (ap (λ (z : Link). z.dialect) is) (ap (λ (z : Link). said_late z.late.items) is) now)
         (ap (λ (z : Conn). is_over z.number h) same ∙ a.goes_on c was)
-        (calls_later (step ∷ []) past at y.waiting.items (subst (λ w. MayAllGo past at w) (sym (ap (λ (z : Link). z.waiting.items) is)) a.waiting))
-        (subst (λ w. AreDue (step ∷ past) at (said_asks w)) (sym (ap (λ (z : Link). z.waiting.items) is)) one.due)
+        (calls_later (step ∷ []) past at y.waiting (subst (λ w. MayAllGo past at w) (sym (ap (λ (z : Link). z.waiting) is)) a.waiting))
+        (subst (λ w. AreDue (step ∷ past) at (said_asks w)) (sym (ap (λ (z : Link). z.waiting) is)) one.due)
         (subst (λ (l : List SentCall). AreCalled (step ∷ past) at (said_asks l)) (sym more) one.called) (ap (λ (t : Talk). t.stands) talk ∙ a.used c was) (as_tried (ap (λ (z : Link). z.lost) is) (ap (λ (t : Talk). t.failed) talk) a.tried)
 
 -- a link that has another list of calls that wait
-waits_with : (at : ℕ) (past : List Step) (h : List WireEvent) (x y : Link) → y ≡ record x { waiting = y.waiting } → LineAgrees at past h x → MayAllGo past at y.waiting.items → AreDue past at (said_asks y.waiting.items) → LineAgrees at past h y
+waits_with : (at : ℕ) (past : List Step) (h : List WireEvent) (x y : Link) → y ≡ record x { waiting = y.waiting } → LineAgrees at past h x → MayAllGo past at y.waiting → AreDue past at (said_asks y.waiting) → LineAgrees at past h y
 waits_with at past h x y is a waiting due = record {
   conn = λ conn there.
       talk_as (ap address_and_opened is) refl refl refl refl (ap (λ (z : Link). said_asks z.calls.sent.items) is) (ap (λ (z : Link). z.awaits_dialect) is) (ap (λ (z : Link). z.dialect) is) (ap (λ (z : Link). said_late z.late.items) is)
@@ -556,12 +555,24 @@ waits_with at past h x y is a waiting due = record {
 
 -- it waits
 pub line_waits :
-    {Is : Step → Type 0} {at : ℕ} {core : ServedCore} {h : List WireEvent} (x y : Link) (call : SentCall) → y ≡ record x { waiting = y.waiting } → y.waiting.items ≡ x.waiting.items ++ call ∷ []
+    {Is : Step → Type 0} {at : ℕ} {core : ServedCore} {h : List WireEvent} (x y : Link) (call : SentCall) → y ≡ record x { waiting = y.waiting } → y.waiting ≡ x.waiting ++ call ∷ []
     → LineGoesFrom (LineCalled call) LineAgrees Is at core h x core h y
 line_waits {at = at} {h = h} x y call is more =
     line_moves refl (none_since h) (shut_still (quiet h) (ap conn_of is)) (ap address_and_limits is)
     (λ past a. (
-      waits_with at past h x y is a.0 (subst (λ w. MayAllGo past at w) (sym more) (one_more past at x.waiting.items call a.0.waiting a.1)) (subst (λ w. AreDue past at (said_asks w)) (sym more) (due_behind past at x.waiting.items call a.2)),
+      waits_with at past h x y is a.0 (subst (λ w. MayAllGo past at w) (sym more) (one_more past at x.waiting call a.0.waiting a.1)) (subst (λ w. AreDue past at (said_asks w)) (sym more) (due_behind past at x.waiting call a.2)),
+      all_kept (1, at) h h (quiet h),
+    ))
+
+-- or before all others, where nothing of its line has changed but that
+pub line_waits_first :
+    {Is : Step → Type 0} {at : ℕ} {core : ServedCore} {h : List WireEvent} (x m y : Link) (call : SentCall) → line_of m ≡ line_of x → y ≡ record m { waiting = y.waiting } → y.waiting ≡ call ∷ m.waiting
+    → LineGoesFrom (LineCalled call) LineAgrees Is at core h x core h y
+line_waits_first {at = at} {h = h} x m y call same is first =
+    line_moves refl (none_since h) (shut_still (quiet h) (ap conn_of is ∙ same_conn x m same)) (ap address_and_limits is ∙ ap (λ (s : LineState). s.0.0) same)
+    (λ past a.
+    let waits : y.waiting ≡ call ∷ x.waiting = first ∙ ap (λ (l : List SentCall). call ∷ l) (ap (λ (s : LineState). s.3) same) in (
+      waits_with at past h m y is (same_line at past h x m same a.0) (subst (λ w. MayAllGo past at w) (sym waits) (a.1, a.0.waiting)) (subst (λ w. AreDue past at (said_asks w)) (sym waits) a.2),
       all_kept (1, at) h h (quiet h),
     ))
 
@@ -571,8 +582,8 @@ called_between past at (first ∷ before) call after are = let rest = called_bet
 
 -- one of those that wait is taken
 pub line_takes :
-    {Is : Step → Type 0} {at : ℕ} {core : ServedCore} {h : List WireEvent} (x y : Link) (call : SentCall) (before after : List SentCall) → y ≡ record x { waiting = y.waiting } → x.waiting.items ≡ before ++ call ∷ after
-    → y.waiting.items ≡ before ++ after → LineGoesFrom LineAgrees (LineCalled call) Is at core h x core h y
+    {Is : Step → Type 0} {at : ℕ} {core : ServedCore} {h : List WireEvent} (x y : Link) (call : SentCall) (before after : List SentCall) → y ≡ record x { waiting = y.waiting } → x.waiting ≡ before ++ call ∷ after
+    → y.waiting ≡ before ++ after → LineGoesFrom LineAgrees (LineCalled call) Is at core h x core h y
 line_takes {at = at} {h = h} x y call before after is was now =
     line_moves refl (none_since h) (shut_still (quiet h) (ap conn_of is)) (ap address_and_limits is)
     (λ past a.
@@ -621,8 +632,8 @@ settled_tried (call ∷ gone) sent left old new failed parts (inr still) was = a
 -- the answers in front of what is held settle calls, and this is left of it
 settles_to :
     {After : ℕ → List Step → List WireEvent → Link → Type 0} {at : ℕ} {core core' : ServedCore} {h : List WireEvent} (x y : Link) (c d : Conn) (rest : List ℕ) → x.conn ≡ Some c → y.conn ≡ Some d → x.awaits_dialect ≡ None → x.late.items ≡ []
-    → server_and_opened y ≡ server_and_opened (record x { lost = y.lost }) → StillLost x y → y.waiting.items ≡ x.waiting.items → y.awaits_dialect ≡ x.awaits_dialect → y.dialect ≡ x.dialect → y.late.items ≡ x.late.items → d.number ≡ c.number → bytes_of d.unsent ≡ bytes_of c.unsent
-    → ((past : List Step) → ConnAgrees at past h y d rest → is_over d.number h ≡ false → MayAllGo past at y.waiting.items → AreDue past at (said_asks y.waiting.items) → AreCalled past at (said_asks y.calls.sent.items) → (talk_in past at).stands ≡ InUse → y.lost ≤ (talk_in past at).failed → After at past h y)
+    → server_and_opened y ≡ server_and_opened (record x { lost = y.lost }) → StillLost x y → y.waiting ≡ x.waiting → y.awaits_dialect ≡ x.awaits_dialect → y.dialect ≡ x.dialect → y.late.items ≡ x.late.items → d.number ≡ c.number → bytes_of d.unsent ≡ bytes_of c.unsent
+    → ((past : List Step) → ConnAgrees at past h y d rest → is_over d.number h ≡ false → MayAllGo past at y.waiting → AreDue past at (said_asks y.waiting) → AreCalled past at (said_asks y.calls.sent.items) → (talk_in past at).stands ≡ InUse → y.lost ≤ (talk_in past at).failed → After at past h y)
     → SettlesSome x.calls.sent.items c.held.items core y.calls.sent.items rest core' → LineGoesFrom LineAgrees After IsOfTurn at core h x core' h y
 settles_to {After} {at} {core} {core'} {h} x y c d rest was is off alone place still waiting awaits speaks late number unsent after s = record {
   steps = g.steps;
@@ -638,42 +649,33 @@ settles_to {After} {at} {core} {core'} {h} x y c d rest was is off alone place s
     g : Answers at x.calls.sent.items c.held.items core y.calls.sent.items rest core'
     g = answers_some at x.calls.sent.items c.held.items core y.calls.sent.items rest core' s
 
-    left : (past : List Step) → LineAgrees at past h x → SentGone at past (g.steps ++ past) y.calls.sent.items x.waiting.items
-    left past a = sent_gone at past (g.steps ++ past) g.gone y.calls.sent.items x.waiting.items (g.keeps past) (subst (λ (l : List SentCall). AreCalled past at (said_asks l)) g.parts a.called) a.due
+    left : (past : List Step) → LineAgrees at past h x → SentGone at past (g.steps ++ past) y.calls.sent.items x.waiting
+    left past a = sent_gone at past (g.steps ++ past) g.gone y.calls.sent.items x.waiting (g.keeps past) (subst (λ (l : List SentCall). AreCalled past at (said_asks l)) g.parts a.called) a.due
 
     agreed : (past : List Step) → LineAgrees at past h x → talk_in (g.steps ++ past) at ≡ record (talk_in past at) { told = (talk_in past at).told ++ g.spelled; out = said_asks y.calls.sent.items; failed = failed_by g.gone (talk_in past at).failed } → After at (g.steps ++ past) h y
     agreed past a talk =
         let before = talk_as refl refl refl (sym g.whole) refl refl refl refl refl (a.conn c was) in
         let now = talk_answers h at (address_and_opened x) (talk_in past at) c.number g.spelled rest (bytes_of c.unsent) (said_asks x.calls.sent.items) (said_asks y.calls.sent.items) (failed_by g.gone (talk_in past at).failed) x.awaits_dialect x.dialect before in
-        after (g.steps ++ past) (talk_as (same_opening (record x { lost = y.lost }) y place) talk number refl unsent refl awaits speaks (ap said_late late) now) (ap (λ n. is_over n h) number ∙ a.goes_on c was) (calls_later g.steps past at y.waiting.items (subst (λ w. MayAllGo past at w) (sym waiting) a.waiting))
+        after (g.steps ++ past) (talk_as (same_opening (record x { lost = y.lost }) y place) talk number refl unsent refl awaits speaks (ap said_late late) now) (ap (λ n. is_over n h) number ∙ a.goes_on c was) (calls_later g.steps past at y.waiting (subst (λ w. MayAllGo past at w) (sym waiting) a.waiting))
         (subst (λ w. AreDue (g.steps ++ past) at (said_asks w)) (sym waiting) (left past a).due) (left past a).called (ap (λ (t : Talk). t.stands) talk ∙ a.used c was)
         (as_tried refl (ap (λ (t : Talk). t.failed) talk) (settled_tried g.gone x.calls.sent.items y.calls.sent.items x.lost y.lost (talk_in past at).failed g.parts still a.tried))
 
 -- what is left of it is held
 pub line_settles :
-    {at : ℕ} {core core' : ServedCore} {h : List WireEvent} (x y : Link) (c d : Conn) → x.conn ≡ Some c → y.conn ≡ Some d → x.awaits_dialect ≡ None → x.late.items ≡ [] → server_and_opened y ≡ server_and_opened (record x { lost = y.lost }) → StillLost x y → y.waiting.items ≡ x.waiting.items
+    {at : ℕ} {core core' : ServedCore} {h : List WireEvent} (x y : Link) (c d : Conn) → x.conn ≡ Some c → y.conn ≡ Some d → x.awaits_dialect ≡ None → x.late.items ≡ [] → server_and_opened y ≡ server_and_opened (record x { lost = y.lost }) → StillLost x y → y.waiting ≡ x.waiting
     → y.awaits_dialect ≡ x.awaits_dialect → y.dialect ≡ x.dialect → y.late.items ≡ x.late.items → d.number ≡ c.number → bytes_of d.unsent ≡ bytes_of c.unsent → SettlesSome x.calls.sent.items c.held.items core y.calls.sent.items d.held.items core'
     → LineGoes IsOfTurn at core h x core' h y
 line_settles {at} {core} {core'} {h} x y c d was is off alone place still waiting awaits speaks late number unsent s =
     settles_to x y c d d.held.items was is off alone place still waiting awaits speaks late number unsent (λ past agrees goes_on waits due called used tried. has_conn at past h y d is agrees goes_on waits due called used tried) s
 
--- or it is lost
-pub line_loses :
-    {at : ℕ} {core core' : ServedCore} {h : List WireEvent} (x y : Link) (c d : Conn) (rest : List ℕ) → x.conn ≡ Some c → y.conn ≡ Some d → x.awaits_dialect ≡ None → x.late.items ≡ [] → server_and_opened y ≡ server_and_opened (record x { lost = y.lost })
-    → StillLost x y → y.waiting.items ≡ x.waiting.items → y.awaits_dialect ≡ x.awaits_dialect → y.dialect ≡ x.dialect → y.late.items ≡ x.late.items → d.number ≡ c.number → bytes_of d.unsent ≡ bytes_of c.unsent → SettlesSome x.calls.sent.items c.held.items core y.calls.sent.items rest core'
-    → LineGoesFrom LineAgrees LineLost IsOfTurn at core h x core' h y
-line_loses {at} {core} {core'} {h} x y c d rest was is off alone place still waiting awaits speaks late number unsent s =
-    settles_to x y c d rest was is off alone place still waiting awaits speaks late number unsent
-    (λ past agrees goes_on waits due called used tried. record { conn = λ conn there. subst (λ (z : Conn). (held : List ℕ) × ConnAgrees at past h y z held) (same_some (sym is ∙ there)) (rest, agrees); waiting = waits; due = due; none_out = λ none. absurd (none_some (sym none ∙ is)); unused = λ none. absurd (none_some (sym none ∙ is)); called = called; used = λ conn there. used; tried = tried }) s
-
 -- ---- the end of a connection
 
 -- it had no connection in use, and nothing happened
 gives_none :
-    {at : ℕ} {core : ServedCore} {h h' : List WireEvent} (why : Option Cause) (x y : Link) → x.conn ≡ None → h' ≡ h → y.conn ≡ None → y.draining ≡ x.draining → address_and_limits y ≡ address_and_limits x → y.waiting.items ≡ x.waiting.items
-    → y.calls.sent.items ≡ x.calls.sent.items → y.lost ≡ x.lost → LineGoesFrom (LineLeaves why) LineAgrees (IsGivingUp why) at core h x core h' y
+    {at : ℕ} {core : ServedCore} {h h' : List WireEvent} (why : Option Cause) (x y : Link) → x.conn ≡ None → h' ≡ h → y.conn ≡ None → y.draining ≡ x.draining → address_and_limits y ≡ address_and_limits x → y.waiting ≡ x.waiting
+    → y.calls.sent.items ≡ x.calls.sent.items → y.lost ≡ x.lost → LineGoesFrom (LineFails why) LineAgrees (IsGivingUp why) at core h x core h' y
 gives_none {at} {core} {h} {h'} why x y had same closed draining server waiting sent lost =
-    line_moves refl ([], same) (shut_still still (conns_same x y (closed ∙ sym had) draining)) server (λ past a. (left past a.0, all_kept (1, at) h h' still))
+    line_moves refl ([], same) (shut_still still (conns_same x y (closed ∙ sym had) draining)) server (λ past a. (left past a, all_kept (1, at) h h' still))
   where
     still : (d : ℕ) → IsUntouched d h h'
     still d = subst (IsUntouched d h) (sym same) (untouched d h)
@@ -687,15 +689,15 @@ gives_none {at} {core} {h} {h'} why x y had same closed draining server waiting 
 -- it was given up, for what its connection showed, whatever that held; and so the connections that it has stand now
 gives_up :
     {at : ℕ} {core : ServedCore} {h h' : List WireEvent} (why : Option Cause) (x y : Link) (c : Conn) → x.conn ≡ Some c → TouchesOnly c.number h h' → role c.number h' ≡ role c.number h → y.conn ≡ None → address_and_limits y ≡ address_and_limits x
-    → y.waiting.items ≡ x.waiting.items → y.calls.sent.items ≡ x.calls.sent.items → y.lost ≤ x.lost + 1 → StaysShut at h x h' y
-    → ((past : List Step) → LineFails why at past h x → Unused h' at y.text.items (talk_in (Lost at why x.limits.connect_ms ∷ past) at) (drain_of y)) → LineGoesFrom (LineLeaves why) LineAgrees (IsGivingUp why) at core h x core h' y
+    → y.waiting ≡ x.waiting → y.calls.sent.items ≡ x.calls.sent.items → y.lost ≤ x.lost + 1 → StaysShut at h x h' y
+    → ((past : List Step) → LineFails why at past h x → Unused h' at y.text.items (talk_in (Lost at why x.limits.connect_ms ∷ past) at) (drain_of y)) → LineGoesFrom (LineFails why) LineAgrees (IsGivingUp why) at core h x core h' y
 gives_up {at} {core} {h} {h'} why x y c e only same_role closed server waiting sent lost shut unused = record {
   steps = Lost at why x.limits.connect_ms ∷ [];
   kinds = (refl, tt);
   own = (refl, tt);
   walks = (core, refl, refl);
-  agrees = λ past o tells a. ((a.1, o), left past a.0, keeps_others c.number (1, at) h h' (a.0.lost.conn c e).1.is_to same_role only, λ j other n ask is. (refl, refl, refl));
-  shown = λ past o tells a shown. (was_shown past a.0, shown_since past h h' (only_after c.number h h' only) shown);
+  agrees = λ past o tells a. ((tt, o), left past a, keeps_others c.number (1, at) h h' (a.lost.conn c e).1.is_to same_role only, λ j other n ask is. (refl, refl, refl));
+  shown = λ past o tells a shown. (was_shown past a, shown_since past h h' (only_after c.number h h' only) shown);
   shut = shut;
   server = record { same = server; late = (refl, tt) };
 }
@@ -716,8 +718,8 @@ gives_up {at} {core} {h} {h'} why x y c e only same_role closed server waiting s
 
     left : (past : List Step) → LineFails why at past h x → LineAgrees at (Lost at why x.limits.connect_ms ∷ past) h' y
     left past a =
-        has_none at (Lost at why x.limits.connect_ms ∷ past) h' y closed (calls_later (Lost at why x.limits.connect_ms ∷ []) past at y.waiting.items (subst (λ w. MayAllGo past at w) (sym waiting) a.lost.waiting))
-        (due_stays past (Lost at why x.limits.connect_ms ∷ past) at (said_asks y.waiting.items) (λ n ask is. (refl, refl, refl)) (subst (λ w. AreDue past at (said_asks w)) (sym waiting) a.lost.due)) (ap (λ (t : Talk). t.out) (talk past), given past a) (unused past a)
+        has_none at (Lost at why x.limits.connect_ms ∷ past) h' y closed (calls_later (Lost at why x.limits.connect_ms ∷ []) past at y.waiting (subst (λ w. MayAllGo past at w) (sym waiting) a.lost.waiting))
+        (due_stays past (Lost at why x.limits.connect_ms ∷ past) at (said_asks y.waiting) (λ n ask is. (refl, refl, refl)) (subst (λ w. AreDue past at (said_asks w)) (sym waiting) a.lost.due)) (ap (λ (t : Talk). t.out) (talk past), given past a) (unused past a)
         (called_stays past (Lost at why x.limits.connect_ms ∷ past) at (said_asks y.calls.sent.items) (λ n ask is. (refl, refl, refl)) (subst (λ (l : List SentCall). AreCalled past at (said_asks l)) (sym sent) a.lost.called)) (tried past a)
 
     was_shown : (past : List Step) → LineFails why at past h x → WasShown why x.limits.connect_ms at past h'
@@ -735,11 +737,11 @@ gives_up {at} {core} {h} {h'} why x y c e only same_role closed server waiting s
 -- its connection was closed, whatever it held, for what it showed
 pub line_closes :
     {at : ℕ} {core : ServedCore} {h h' : List WireEvent} (why : Option Cause) → standing_after why ≡ Apart → (x y : Link) (r : Option ℕ) → r ≡ option_map (λ (z : Conn). z.number) x.conn → IfSome r (λ c. Closes c h h') → (r ≡ None → h' ≡ h) → y.conn ≡ None
-    → MatchOption x.conn (y.draining ≡ x.draining) (λ c. y.draining ≡ None) → address_and_limits y ≡ address_and_limits x → y.waiting.items ≡ x.waiting.items → y.calls.sent.items ≡ x.calls.sent.items
-    → MatchOption x.conn (y.lost ≡ x.lost) (λ c. y.lost ≤ x.lost + 1) → LineGoesFrom (LineLeaves why) LineAgrees (IsGivingUp why) at core h x core h' y
+    → MatchOption x.conn (y.draining ≡ x.draining) (λ c. y.draining ≡ None) → address_and_limits y ≡ address_and_limits x → y.waiting ≡ x.waiting → y.calls.sent.items ≡ x.calls.sent.items
+    → MatchOption x.conn (y.lost ≡ x.lost) (λ c. y.lost ≤ x.lost + 1) → LineGoesFrom (LineFails why) LineAgrees (IsGivingUp why) at core h x core h' y
 line_closes {at} {core} {h} {h'} why apart x y r r_is some none closed draining server waiting sent lost = by x.conn refl draining lost
   where
-    by : (o : Option Conn) → x.conn ≡ o → MatchOption o (y.draining ≡ x.draining) (λ c. y.draining ≡ None) → MatchOption o (y.lost ≡ x.lost) (λ c. y.lost ≤ x.lost + 1) → LineGoesFrom (LineLeaves why) LineAgrees (IsGivingUp why) at core h x core h' y
+    by : (o : Option Conn) → x.conn ≡ o → MatchOption o (y.draining ≡ x.draining) (λ c. y.draining ≡ None) → MatchOption o (y.lost ≡ x.lost) (λ c. y.lost ≤ x.lost + 1) → LineGoesFrom (LineFails why) LineAgrees (IsGivingUp why) at core h x core h' y
     by None e same less = gives_none why x y e (none (r_is ∙ ap (option_map (λ (z : Conn). z.number)) e)) closed same server waiting sent less
     by (Some c) e undrained less =
         gives_up why x y c e only (closed_role c.number h h' closes_it) closed server waiting sent less (shut_closed c.number only (closed_shut c.number h h' closes_it) (conn_is x c e))
@@ -755,13 +757,13 @@ line_closes {at} {core} {h} {h'} why apart x y r r_is some none closed draining 
 -- or it can't be kept, and its end is awaited
 pub line_drains :
     {at : ℕ} {core : ServedCore} {h h' : List WireEvent} (why : Option Cause) → standing_after why ≡ Ending → (x y : Link) → h' ≡ h → y.conn ≡ None → conn_of y ≡ conn_of x → (x.conn ≡ None → y.draining ≡ x.draining) → address_and_limits y ≡ address_and_limits x
-    → y.waiting.items ≡ x.waiting.items → y.calls.sent.items ≡ x.calls.sent.items → MatchOption x.conn (y.lost ≡ x.lost) (λ c. y.lost ≤ x.lost + 1) → LineGoesFrom (LineLeaves why) LineAgrees (IsGivingUp why) at core h x core h' y
+    → y.waiting ≡ x.waiting → y.calls.sent.items ≡ x.calls.sent.items → MatchOption x.conn (y.lost ≡ x.lost) (λ c. y.lost ≤ x.lost + 1) → LineGoesFrom (LineFails why) LineAgrees (IsGivingUp why) at core h x core h' y
 line_drains {at} {core} {h} {h'} why ending x y same closed conns draining server waiting sent lost = by x.conn refl lost
   where
     still : (d : ℕ) → IsUntouched d h h'
     still d = subst (IsUntouched d h) (sym same) (untouched d h)
 
-    by : (o : Option Conn) → x.conn ≡ o → MatchOption o (y.lost ≡ x.lost) (λ c. y.lost ≤ x.lost + 1) → LineGoesFrom (LineLeaves why) LineAgrees (IsGivingUp why) at core h x core h' y
+    by : (o : Option Conn) → x.conn ≡ o → MatchOption o (y.lost ≡ x.lost) (λ c. y.lost ≤ x.lost + 1) → LineGoesFrom (LineFails why) LineAgrees (IsGivingUp why) at core h x core h' y
     by None e less = gives_none why x y e same closed (draining e) server waiting sent less
     by (Some c) e less =
         gives_up why x y c e (λ d other. still d) (still c.number).same_role closed server waiting sent less (shut_still still conns)
@@ -776,22 +778,6 @@ line_drains {at} {core} {h} {h'} why ending x y same closed conns draining serve
             subst (λ k. Unused k at y.text.items (talk_in (Lost at why x.limits.connect_ms ∷ past) at) (Some c.number)) (sym same)
             (subst (λ w. Unused h at w (talk_in (Lost at why x.limits.connect_ms ∷ past) at) (Some c.number)) (sym (same_text x y server))
             (subst (λ u. Unused h at x.text.items u (Some c.number)) (sym talk) (ending, (a.lost.conn c e).0, bytes_of c.unsent, x.opened, now)))
-
--- what is to be given up is so still once something was noted
-pub noted_fails : (why : Option Cause) (at : ℕ) (obstacle : Obstacle) (past : List Step) (h : List WireEvent) (x : Link) → LineFails why at past h x → LineFails why at (Noted at obstacle ∷ past) h x
-noted_fails why at obstacle past h x a = record {
-  lost = record {
-    conn = a.lost.conn;
-    waiting = calls_later (Noted at obstacle ∷ []) past at x.waiting.items a.lost.waiting;
-    due = due_stays past (Noted at obstacle ∷ past) at (said_asks x.waiting.items) (λ n ask is. (refl, refl, refl)) a.lost.due;
-    none_out = λ none. let out = a.lost.none_out none in (out.0, all_given_later (Noted at obstacle ∷ []) past (said_asks x.calls.sent.items) out.1);
-    unused = a.lost.unused;
-    called = called_stays past (Noted at obstacle ∷ past) at (said_asks x.calls.sent.items) (λ n ask is. (refl, refl, refl)) a.lost.called;
-    used = a.lost.used;
-    tried = a.lost.tried;
-  };
-  shows = a.shows;
-}
 
 -- ---- the end of one that can't be kept
 
@@ -830,25 +816,10 @@ line_away {at = at} {h = h} {h' = h'} x y c d bytes none was is number r =
 
     agrees : (past : List Step) → LineAgrees at past h x → LineAgrees at past h' y
     agrees past a =
-        let waits = sym (ap (λ (z : Link). z.waiting.items) is) in
+        let waits = sym (ap (λ (z : Link). z.waiting) is) in
         has_none at past h' y (ap (λ (z : Link). z.conn) is ∙ none) (subst (λ w. MayAllGo past at w) waits a.waiting) (subst (λ w. AreDue past at (said_asks w)) waits a.due) (subst (λ l. AllGivenUp past at l) (sym (ap (λ (z : Link). said_asks z.calls.sent.items) is)) (a.none_out none))
         (subst (Unused h' at y.text.items (talk_in past at)) (sym drains) (subst (λ w. Unused h' at w (talk_in past at) (Some c.number)) (sym (ap (λ (z : Link). z.text.items) is)) (now past a)))
         (subst (λ l. AreCalled past at l) (sym (ap (λ (z : Link). said_asks z.calls.sent.items) is)) a.called) (as_tried (ap (λ (z : Link). z.lost) is) refl a.tried)
-
--- where none is in use then, and none is awaited, it wasn't for want of room
-apart_noted : (why : Option Cause) (at : ℕ) (past : List Step) → standing_after why ≡ Apart → IsNotedFor why at past
-apart_noted None at past apart = tt
-apart_noted (Some causes.Unreachable) at past apart = tt
-apart_noted (Some causes.ConnectLate) at past apart = tt
-apart_noted (Some causes.AnswerLate) at past apart = tt
-apart_noted (Some causes.Closed) at past apart = tt
-apart_noted (Some causes.Broken) at past apart = tt
-apart_noted (Some causes.ForeignAnswer) at past apart = tt
-apart_noted (Some causes.NoRoom) at past apart = absurd (ending_apart apart)
-  where
-    ending_apart : Ending ≡ Apart → ⊥
-    ending_apart e = cc
-apart_noted (Some causes.VainReads) at past apart = tt
 
 -- it has ended, or failed, or is awaited no longer, and was closed for that
 pub line_ends :
@@ -859,7 +830,7 @@ line_ends {Is} {at} {core} {h} {k} {h'} why kind apart x y c none was is r shows
   kinds = (kind x.limits.connect_ms, tt);
   own = (refl, tt);
   walks = (core, refl, refl);
-  agrees = λ past o tells a. ((apart_noted why at past apart, o), left past a, keeps_others c.number (1, at) h h' (before past a).4.is_to (closed_role c.number k h' closes_it ∙ r.same_role) only, λ j other n ask is. (refl, refl, refl));
+  agrees = λ past o tells a. ((tt, o), left past a, keeps_others c.number (1, at) h h' (before past a).4.is_to (closed_role c.number k h' closes_it ∙ r.same_role) only, λ j other n ask is. (refl, refl, refl));
   shown = λ past o tells a shown. (was_shown past a, shown_since past h h' (only_after c.number h h' only) shown);
   shut = shut_closed c.number only (closed_shut c.number k h' closes_it) (conn_drains x none ∙ ap (option_map (λ (z : Conn). z.number)) was);
   server = record { same = ap address_and_limits is; late = (refl, tt) };
@@ -877,8 +848,8 @@ line_ends {Is} {at} {core} {h} {k} {h'} why kind apart x y c none was is r shows
     left : (past : List Step) → LineAgrees at past h x → LineAgrees at (Lost at why x.limits.connect_ms ∷ past) h' y
     left past a =
         has_none at (Lost at why x.limits.connect_ms ∷ past) h' y (ap (λ (z : Link). z.conn) is ∙ none)
-        (calls_later (Lost at why x.limits.connect_ms ∷ []) past at y.waiting.items (subst (λ w. MayAllGo past at w) (sym (ap (λ (z : Link). z.waiting.items) is)) a.waiting))
-        (due_stays past (Lost at why x.limits.connect_ms ∷ past) at (said_asks y.waiting.items) (λ n ask is. (refl, refl, refl)) (subst (λ w. AreDue past at (said_asks w)) (sym (ap (λ (z : Link). z.waiting.items) is)) a.due)) (
+        (calls_later (Lost at why x.limits.connect_ms ∷ []) past at y.waiting (subst (λ w. MayAllGo past at w) (sym (ap (λ (z : Link). z.waiting) is)) a.waiting))
+        (due_stays past (Lost at why x.limits.connect_ms ∷ past) at (said_asks y.waiting) (λ n ask is. (refl, refl, refl)) (subst (λ w. AreDue past at (said_asks w)) (sym (ap (λ (z : Link). z.waiting) is)) a.due)) (
           ap (λ (t : Talk). t.out) (talk past),
           subst (AreGivenUp (Lost at why x.limits.connect_ms ∷ past)) (sym (ap (λ (z : Link). said_asks z.calls.sent.items) is)) (all_given_later (Lost at why x.limits.connect_ms ∷ []) past (said_asks x.calls.sent.items) (a.none_out none).1),
         )
@@ -911,7 +882,7 @@ line_ends {Is} {at} {core} {h} {k} {h'} why kind apart x y c none was is r shows
 -- it had none in use, and has none then
 pub line_shuts :
     {Before : ℕ → List Step → List WireEvent → Link → Type 0} {Is : Step → Type 0} {at : ℕ} {a b : ServedCore} {h h' : List WireEvent} {x y z : Link} → LineGoesFrom Before LineAgrees Is at a h x b h' y → y.conn ≡ None → z.conn ≡ None
-    → z.draining ≡ y.draining → address_and_limits z ≡ address_and_limits y → z.waiting.items ≡ y.waiting.items → z.calls.sent.items ≡ y.calls.sent.items → z.lost ≡ y.lost → LineGoesFrom Before LineAgrees Is at a h x b h' z
+    → z.draining ≡ y.draining → address_and_limits z ≡ address_and_limits y → z.waiting ≡ y.waiting → z.calls.sent.items ≡ y.calls.sent.items → z.lost ≡ y.lost → LineGoesFrom Before LineAgrees Is at a h x b h' z
 line_shuts {at = at} {h' = h'} {x = x} {y = y} {z = z} g none closed draining server waiting sent lost = record {
   steps = g.steps;
   kinds = g.kinds;
@@ -997,7 +968,7 @@ unused_apart h at text talk (Some c) is = λ e. ending_used (sym is.0 ∙ e)
 
 -- calls of it fail, while it has no connection: of those that were sent, and of those that wait, the first do
 pub line_fails :
-    {why : Option Cause} {at : ℕ} {core core' : ServedCore} {h : List WireEvent} (x y : Link) (mid : ServedCore) → FailsTo x.calls.sent.items y.calls.sent.items core mid → FailsTo x.waiting.items y.waiting.items mid core'
+    {why : Option Cause} {at : ℕ} {core core' : ServedCore} {h : List WireEvent} (x y : Link) (mid : ServedCore) → FailsTo x.calls.sent.items y.calls.sent.items core mid → FailsTo x.waiting y.waiting mid core'
     → x.conn ≡ None → y.conn ≡ None → y.draining ≡ x.draining → address_and_limits y ≡ address_and_limits x → y.lost ≡ x.lost → LineGoes (IsGivingUp why) at core h x core' h y
 line_fails {why} {at} {core} {core'} {h} x y mid sent waiting had none draining server lost = record {
   steps = w.steps ++ f.steps;
@@ -1006,9 +977,9 @@ line_fails {why} {at} {core} {core'} {h} x y mid sent waiting had none draining 
   walks = walked w.steps f.steps core mid core' f.walks w.walks;
   agrees = λ past o tells a. (
     subst IsOrderly (sym (append_assoc w.steps f.steps past))
-        (w.orderly (f.steps ++ past) (waiting_out (f.steps ++ past) at waiting.0 y.waiting.items (after_sent past a).due) (waiting_fail (f.steps ++ past) at waiting.0 y.waiting.items (subst (λ (t : Talk). t.stands ≢ InUse) (sym (plain_talk f.steps (failed_own at f.steps f.kinds).1 past at)) (unused_apart h at x.text.items (talk_in past at) (drain_of x) (a.unused had))) (after_sent past a).due) (ap (λ (t : Talk). t.out) (plain_talk f.steps (failed_own at f.steps f.kinds).1 past at) ∙ (a.none_out had).0)
+        (w.orderly (f.steps ++ past) (waiting_out (f.steps ++ past) at waiting.0 y.waiting (after_sent past a).due) (waiting_fail (f.steps ++ past) at waiting.0 y.waiting (subst (λ (t : Talk). t.stands ≢ InUse) (sym (plain_talk f.steps (failed_own at f.steps f.kinds).1 past at)) (unused_apart h at x.text.items (talk_in past at) (drain_of x) (a.unused had))) (after_sent past a).due) (ap (λ (t : Talk). t.out) (plain_talk f.steps (failed_own at f.steps f.kinds).1 past at) ∙ (a.none_out had).0)
         (f.orderly past (sent_out past at sent.0 y.calls.sent.items (called past a)) (sent_fail past (said_asks sent.0) (given past a).0) (a.none_out had).0 o)),
-    has_none at ((w.steps ++ f.steps) ++ past) h y none (calls_later (w.steps ++ f.steps) past at y.waiting.items (last_called past at waiting.0 y.waiting.items (subst (λ l. MayAllGo past at l) waiting.1 a.waiting)))
+    has_none at ((w.steps ++ f.steps) ++ past) h y none (calls_later (w.steps ++ f.steps) past at y.waiting (last_called past at waiting.0 y.waiting (subst (λ l. MayAllGo past at l) waiting.1 a.waiting)))
         (left past a).due
         (ap (λ (t : Talk). t.out) (plain_talk (w.steps ++ f.steps) own.1 past at) ∙ (a.none_out had).0, all_given_later (w.steps ++ f.steps) past (said_asks y.calls.sent.items) (given past a).1)
         (subst (λ t. Unused h at t (talk_in ((w.steps ++ f.steps) ++ past) at) (drain_of y)) (sym (same_text x y server))
@@ -1042,13 +1013,13 @@ line_fails {why} {at} {core} {core'} {h} x y mid sent waiting had none draining 
     given past a = given_parts past sent.0 y.calls.sent.items (subst (λ (l : List SentCall). AreGivenUp past (said_asks l)) sent.1 (a.none_out had).1)
 
     -- once those that were sent have failed, and then those that wait
-    after_sent : (past : List Step) → LineAgrees at past h x → SentGone at past (f.steps ++ past) y.calls.sent.items (waiting.0 ++ y.waiting.items)
-    after_sent past a = sent_gone at past (f.steps ++ past) sent.0 y.calls.sent.items (waiting.0 ++ y.waiting.items) (f.keeps past) (called past a) (subst (λ (l : List SentCall). AreDue past at (said_asks l)) waiting.1 a.due)
+    after_sent : (past : List Step) → LineAgrees at past h x → SentGone at past (f.steps ++ past) y.calls.sent.items (waiting.0 ++ y.waiting)
+    after_sent past a = sent_gone at past (f.steps ++ past) sent.0 y.calls.sent.items (waiting.0 ++ y.waiting) (f.keeps past) (called past a) (subst (λ (l : List SentCall). AreDue past at (said_asks l)) waiting.1 a.due)
 
-    left : (past : List Step) → LineAgrees at past h x → SentGone at past ((w.steps ++ f.steps) ++ past) y.calls.sent.items y.waiting.items
+    left : (past : List Step) → LineAgrees at past h x → SentGone at past ((w.steps ++ f.steps) ++ past) y.calls.sent.items y.waiting
     left past a =
         let first = after_sent past a in
-        let later = waiting_gone at (f.steps ++ past) (w.steps ++ (f.steps ++ past)) waiting.0 y.waiting.items y.calls.sent.items (w.keeps (f.steps ++ past)) first.due first.called in
-        let both : SentGone at past (w.steps ++ (f.steps ++ past)) y.calls.sent.items y.waiting.items =
+        let later = waiting_gone at (f.steps ++ past) (w.steps ++ (f.steps ++ past)) waiting.0 y.waiting y.calls.sent.items (w.keeps (f.steps ++ past)) first.due first.called in
+        let both : SentGone at past (w.steps ++ (f.steps ++ past)) y.calls.sent.items y.waiting =
         record { called = later.called; due = later.due; others = leaves_twice at past (f.steps ++ past) (w.steps ++ (f.steps ++ past)) first.others later.others } in
-        subst (λ l. SentGone at past l y.calls.sent.items y.waiting.items) (sym (append_assoc w.steps f.steps past)) both
+        subst (λ l. SentGone at past l y.calls.sent.items y.waiting) (sym (append_assoc w.steps f.steps past)) both

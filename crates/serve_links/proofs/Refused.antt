@@ -17,7 +17,7 @@ refused_anew why since now x y is was = subst (IsRefused why since now) (sym is)
     by refusals.ForeignCame r = r
     by refusals.WaitedLong r = r
     by refusals.LeftAlone r = r
-    by refusals.NoMemory r = r
+    by refusals.ManyWait r = r
 
 pub first_is : (Is : SentCall → Type 0) (calls rest : List SentCall) (call : SentCall) → calls ≡ call ∷ rest → FirstIs Is calls → Is call
 first_is Is calls rest call same first = subst (FirstIs Is) same first

@@ -4,7 +4,7 @@ use Rattle.serve_wire.specs.Events.{WireEvent}
 use Rattle.serve_wire.specs.Agreement.{Extends}
 use Rattle.serve_wire.proofs.Steps.{extends_twice}
 use Rattle.serve_links.specs.declared.news.Cause.{Cause}
-use Rattle.serve_links.specs.CoreSteps.{Obstacle, WaitedLong, StoreLate, ForeignCame, LeftAlone, Unseen, Step, Opened, NotOpened, Fed, Polled, Stopped, Settled, Gave, Closed, LeftLine, Broke, Ticked, Loaded, Linked, Asked, Greeted, Spelled, Late, CameLate, Lost, Noted, StepsAreOf}
+use Rattle.serve_links.specs.CoreSteps.{Obstacle, WaitedLong, StoreLate, ForeignCame, LeftAlone, ManyWait, Step, Opened, NotOpened, Fed, Polled, Stopped, Settled, Gave, Closed, LeftLine, Broke, Ticked, Loaded, Linked, Asked, Greeted, Spelled, Late, CameLate, Lost, Noted, StepsAreOf}
 use Rattle.serve_links.specs.declared.news.Cause.TheVariants as causes
 use Rattle.serve_links.specs.Story.{WasShown, ObstacleIsShown, StepIsShown, StepsAreShown}
 use Rattle.serve_links.proofs.Talking.{IsPlain}
@@ -79,7 +79,7 @@ obstacle_since ForeignCame at past h h' more was = was_since (Some causes.Foreig
 obstacle_since (WaitedLong number limit) at past h h' more was = tt
 obstacle_since (StoreLate limit) at past h h' more was = tt
 obstacle_since (LeftAlone limit) at past h h' more was = tt
-obstacle_since (Unseen why) at past h h' more was = tt
+obstacle_since ManyWait at past h h' more was = tt
 
 -- what was shown stays so
 pub shown_since : (steps : List Step) (h h' : List WireEvent) → Extends h h' → StepsAreShown steps h → StepsAreShown steps h'

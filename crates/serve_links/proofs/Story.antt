@@ -101,13 +101,13 @@ unused_stays h h' at text t t' o same e was = subst (λ u. Unused h' at text u o
 
 -- a link whose connections nothing touched, and of whose server nothing more was told, and whose calls are as they were
 pub line_stays_by :
-    (h h' : List WireEvent) (at : ℕ) (steps past : List Step) (link : Link) → ((c : ℕ) → role c h ≡ Some (1, at) → IsUntouched c h h') → talk_in (steps ++ past) at ≡ talk_in past at → AreDue (steps ++ past) at (said_asks link.waiting.items)
+    (h h' : List WireEvent) (at : ℕ) (steps past : List Step) (link : Link) → ((c : ℕ) → role c h ≡ Some (1, at) → IsUntouched c h h') → talk_in (steps ++ past) at ≡ talk_in past at → AreDue (steps ++ past) at (said_asks link.waiting)
     → AreCalled (steps ++ past) at (said_asks link.calls.sent.items) → LineAgrees at past h link → LineAgrees at (steps ++ past) h' link
 line_stays_by h h' at steps past link same told due called was = record {
   conn = λ conn is.
       talk_stays h h' at (address_and_opened link) (talk_in past at) (talk_in (steps ++ past) at) conn.number conn.held.items (bytes_of conn.unsent) (said_asks link.calls.sent.items) link.awaits_dialect link.dialect (same conn.number (was.conn conn is).is_to) told (was.conn conn is);
   goes_on = λ conn is. (same conn.number (was.conn conn is).is_to).same_over ∙ was.goes_on conn is;
-  waiting = calls_later steps past at link.waiting.items was.waiting;
+  waiting = calls_later steps past at link.waiting was.waiting;
   due = due;
   none_out = λ none. (ap (λ (t : Talk). t.out) told ∙ (was.none_out none).0, all_given_later steps past (said_asks link.calls.sent.items) (was.none_out none).1);
   unused = λ none. unused_stays h h' at link.text.items (talk_in past at) (talk_in (steps ++ past) at) (drain_of link) same told (was.unused none);
@@ -121,7 +121,7 @@ pub line_stays :
     (h h' : List WireEvent) (at : ℕ) (steps past : List Step) (link : Link) → ((c : ℕ) → role c h ≡ Some (1, at) → IsUntouched c h h') → talk_in (steps ++ past) at ≡ talk_in past at → StayOut at past (steps ++ past)
     → LineAgrees at past h link → LineAgrees at (steps ++ past) h' link
 line_stays h h' at steps past link same told stay was =
-    line_stays_by h h' at steps past link same told (due_stays past (steps ++ past) at (said_asks link.waiting.items) stay was.due) (called_stays past (steps ++ past) at (said_asks link.calls.sent.items) stay was.called) was
+    line_stays_by h h' at steps past link same told (due_stays past (steps ++ past) at (said_asks link.waiting) stay was.due) (called_stays past (steps ++ past) at (said_asks link.calls.sent.items) stay was.called) was
 
 -- where no link is, and nothing more was told
 pub unlinked_stays : {t t' : Talk} → t' ≡ t → (t.out ≡ []) × (t.stands ≡ Apart) → (t'.out ≡ []) × (t'.stands ≡ Apart)

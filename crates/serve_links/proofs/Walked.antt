@@ -24,7 +24,7 @@ use Rattle.core_accepted.specs.Known.{Known, more}
 use Rattle.core_accepted.specs.Loading.{IsLoaded}
 use Rattle.serve_links.specs.Calls.{SettlesFirst, SettlesNext}
 use Rattle.serve_links.specs.CoreSteps.{WalksKeepSince}
-use Rattle.serve_links.specs.CoreSteps.{Obstacle, WaitedLong, StoreLate, ForeignCame, LeftAlone, Unseen, Notes, Step, Opened, NotOpened, Fed, Polled, Stopped, Settled, Gave, Closed, LeftLine, Broke, Ticked, Loaded, Linked, Asked, Greeted, Spelled, Late, CameLate, Lost, Noted, Does, Walks, StepsAreOf, GoesBy, IsOfTurn, IsSettlement, IsFailure, GoesOn, OnlyFails, WalksKeep}
+use Rattle.serve_links.specs.CoreSteps.{Step, Opened, NotOpened, Fed, Polled, Stopped, Settled, Gave, Closed, LeftLine, Broke, Ticked, Loaded, Linked, Asked, Greeted, Spelled, Late, CameLate, Lost, Noted, Does, Walks, StepsAreOf, GoesBy, IsOfTurn, IsSettlement, IsFailure, GoesOn, OnlyFails, WalksKeep}
 
 pub walked : (later first : List Step) (a b c : ServedCore) → Walks first a b → Walks later b c → Walks (later ++ first) a c
 walked [] first a b c w v = subst (λ x. Walks first a x) (sym v) w
@@ -213,13 +213,6 @@ one_fewer None now config known e is any = absurd (let none = sym e ∙ is in cc
 loaded_keeps : (configuration : Configuration) (generation : ℕ) (a b : ServedCore) → IsLoaded a configuration generation b → IsWordKept a b
 loaded_keeps configuration generation a b loaded = inr (configuration, loaded.word)
 
-noted_keeps : (obstacle : Obstacle) (a b : ServedCore) → Notes obstacle a b → IsWordKept a b
-noted_keeps (WaitedLong number limit) a b does = as_it_was a b does
-noted_keeps (StoreLate limit) a b does = as_it_was a b does
-noted_keeps (LeftAlone limit) a b does = as_it_was a b does
-noted_keeps ForeignCame a b does = as_it_was a b does
-noted_keeps (Unseen why) a b does = by_word a b does.1.word
-
 does_keep : (step : Step) (a b : ServedCore) → Does step a b → IsWordKept a b
 does_keep (Opened client) a b does = by_word a b does.2.word
 does_keep (NotOpened fault) a b does = by_word a b does.1.word
@@ -236,7 +229,7 @@ does_keep (Loaded configuration generation) a b does = loaded_keeps configuratio
 does_keep (Linked at dialect) a b does = as_it_was a b does
 does_keep (Asked at number dialect ask since) a b does = as_it_was a b does
 does_keep (Greeted at dialect bytes) a b does = as_it_was a b does
-does_keep (Noted at obstacle) a b does = noted_keeps obstacle a b does
+does_keep (Noted at obstacle) a b does = as_it_was a b does
 does_keep (Late at number limit now) a b does = as_it_was a b does
 does_keep (CameLate at number ask answer bytes) a b does = as_it_was a b does
 does_keep (Spelled at number ask answer bytes) a b does = as_it_was a b does.0

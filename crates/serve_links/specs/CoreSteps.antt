@@ -17,21 +17,20 @@ use Rattle.core_accepted.specs.declared.beginnings.Beginnings.{Beginnings}
 use Rattle.core_accepted.specs.Logs.{LogsGoBy, IsAccepted, IsAcceptedSince, fed}
 use Rattle.core_accepted.specs.Results.{StaysCounting, PollGoes, PollStops}
 use Rattle.core_accepted.specs.declared.served.ServedCore.{ServedCore}
-use Rattle.core_accepted.specs.declared.tally.Unshown.{Unshown}
 use Rattle.core_accepted.specs.Results.{IsSettled}
 use Rattle.core_accepted.specs.Loading.{IsLoaded}
-use Rattle.core_accepted.specs.Tallies.{with_client, with_refusal, with_unshown}
+use Rattle.core_accepted.specs.Tallies.{with_client, with_refusal}
 use Rattle.serve_links.specs.declared.settings.Greeting.{Greeting}
 use Rattle.serve_links.specs.declared.news.Cause.{Cause}
 
 -- what keeps a call from being sent to its server, beside what was said over its connection: the call of this number has waited to go out for longer than so many milliseconds; a store that is out there is awaited, and has taken longer than that; what came over the connection is foreign; so many of its
--- connections in a row were given up as are allowed, and a call that is out there tries it; or what nothing shows, for which a connection may be given up too
+-- connections in a row were given up as are allowed, and a call that is out there tries it; or as many calls wait for it as there is always room for
 pub data Obstacle : Type 0 where
   WaitedLong : (number limit : ℕ) → Obstacle
   StoreLate : (limit : ℕ) → Obstacle
   ForeignCame : Obstacle
   LeftAlone : (limit : ℕ) → Obstacle
-  Unseen : (why : Unshown) → Obstacle
+  ManyWait : Obstacle
 
 -- one call of a core that changes it, and what came of it; or what changes no core: the clock was looked at, and showed so many milliseconds; a client was broken off, as its connection failed or memory was refused for its bytes; or at a
 -- server's a new one was begun, a call's ask is to be sent, its time counting from this one, what the server told of its dialects was taken from its bytes, they spell the answer to a call, a call that is out there is late, by this limit at this time, they spell the answer to such a call, it was given up, for a cause, or as that was wanted, where it may take so many milliseconds until it takes calls, or an obstacle was noted
@@ -57,14 +56,6 @@ pub data Step : Type 0 where
   Lost : (at : ℕ) (why : Option Cause) (limit : ℕ) → Step
   Noted : (at : ℕ) (obstacle : Obstacle) → Step
 
--- what nothing shows is counted, as the core's own call does that; for other obstacles the core stays
-abbrev pub Notes : Obstacle → ServedCore → ServedCore → Type 0
-Notes (WaitedLong number limit) old new = new ≡ old
-Notes (StoreLate limit) old new = new ≡ old
-Notes ForeignCame old new = new ≡ old
-Notes (LeftAlone limit) old new = new ≡ old
-Notes (Unseen why) old new = (new.core ≡ old.core) × StaysCounting (with_unshown why) old new
-
 -- a core goes from one state to another by this call: as the core's own call of that name goes, and with each log that may have led to it. By what was done at a connection it stays; where bytes
 -- spell the answer to a call, that call of the core is out, and asks this
 abbrev pub Does : Step → ServedCore → ServedCore → Type 0
@@ -85,7 +76,7 @@ Does (Loaded configuration generation) old new = IsLoaded old configuration gene
 Does (Linked at dialect) old new = new ≡ old
 Does (Asked at number dialect ask since) old new = new ≡ old
 Does (Greeted at dialect bytes) old new = new ≡ old
-Does (Noted at obstacle) old new = Notes obstacle old new
+Does (Noted at obstacle) old new = new ≡ old
 Does (Late at number limit now) old new = new ≡ old
 Does (CameLate at number ask answer bytes) old new = new ≡ old
 Does (Spelled at number ask answer bytes) old new = (new ≡ old) × (of_calls.asked old.core number ≡ Some ask)

@@ -1,5 +1,5 @@
 -- How many steps of a walk are so, and that what is counted is just that. Source: mcgate's own.
-use Rattle.std.specs.Prelude.{◌≡◌, ℕ, ◌+◌, ◌-◌, ◌^◌, Bool, true, false, List, [], ◌∷◌, ◌++◌, length, min, if◌then◌else◌, nat_eq, ◌&&◌}
+use Rattle.std.specs.Prelude.{◌≡◌, ℕ, ◌+◌, ◌-◌, ◌^◌, Bool, true, false, List, [], ◌∷◌, ◌++◌, length, min, if◌then◌else◌, ◌&&◌}
 use Rattle.mc_types.specs.declared.ask.Op.{Op}
 use Rattle.mc_types.specs.declared.call.Outcome.TheVariants.{Answered, Failed}
 use Rattle.route_tree.specs.Operation.{same_op}
@@ -7,9 +7,8 @@ use Rattle.core_proxy.specs.declared.note.Poll.TheVariants as polls
 use Rattle.core_accepted.specs.declared.served.ServedCore.{ServedCore}
 use Rattle.core_accepted.specs.declared.tally.CoreTally.{CoreTally}
 use Rattle.core_accepted.specs.declared.tally.OpTally.{OpTally}
-use Rattle.core_accepted.specs.declared.tally.Unshown.{Unshown}
-use Rattle.core_accepted.specs.Tallies.{ReplyKind, TellsError, ShowsItem, Acknowledges, TellsOther, reply_kind, nothing_done, of_op, of_unshown, unshown_number, MakesPlaces}
-use Rattle.serve_links.specs.CoreSteps.{Unseen, Step, Opened, NotOpened, Polled, Settled, Noted, Walks}
+use Rattle.core_accepted.specs.Tallies.{ReplyKind, TellsError, ShowsItem, Acknowledges, TellsOther, reply_kind, nothing_done, of_op, MakesPlaces}
+use Rattle.serve_links.specs.CoreSteps.{Step, Opened, NotOpened, Polled, Settled, Walks}
 use Rattle.serve_links.specs.Called.{TellsCallsOut}
 use Rattle.serve_links.specs.Talks.{IsOrderly}
 
@@ -70,11 +69,6 @@ abbrev pub fails_one : Step → Bool
 fails_one (Settled number Failed) = true
 fails_one step = false
 
--- whether this was noted by it, which nothing shows
-abbrev pub notes_one : Unshown → Step → Bool
-notes_one why (Noted at (Unseen noted)) = nat_eq (unshown_number noted) (unshown_number why)
-notes_one why step = false
-
 -- how many replies of this kind were counted
 abbrev pub count_of : ReplyKind → OpTally → ℕ
 count_of TellsError tally = tally.errors
@@ -97,16 +91,9 @@ pub record ResultsAreCounted (steps : List Step) (tally : CoreTally) : Type 0 wh
   pub answered : tally.answered ≡ counted (number_of answers_one steps)
   pub failed : tally.failed ≡ counted (number_of fails_one steps)
 
--- for each of what nothing shows, by how many of these steps it was noted is counted
-pub record NotesAreCounted (steps : List Step) (tally : CoreTally) : Type 0 where
-  pub places : length tally.unshown ≡ 2
-  pub noted : (why : Unshown) → of_unshown tally why ≡ counted (number_of (notes_one why) steps)
-
 -- laws of all walks: a core that is new has counted none; and one that has counted the steps before a walk has counted those of the walk after it. So it is with the results of calls where those are settled that are out, as in an orderly walk; a result for which no call was out isn't counted
 pub record StepsAreCounted : Type 0 where
   pub begins : (tally : CoreTally) → MakesPlaces nothing_done tally → AreCounted [] tally
   pub goes_on : (steps past : List Step) (old new : ServedCore) → Walks steps old new → AreCounted past old.tally → AreCounted (steps ++ past) new.tally
   pub results_begin : (tally : CoreTally) → MakesPlaces nothing_done tally → ResultsAreCounted [] tally
   pub results_go_on : (steps past : List Step) (old new : ServedCore) → Walks steps old new → TellsCallsOut past old → IsOrderly (steps ++ past) → ResultsAreCounted past old.tally → ResultsAreCounted (steps ++ past) new.tally
-  pub notes_begin : (tally : CoreTally) → MakesPlaces nothing_done tally → NotesAreCounted [] tally
-  pub notes_go_on : (steps past : List Step) (old new : ServedCore) → Walks steps old new → NotesAreCounted past old.tally → NotesAreCounted (steps ++ past) new.tally

@@ -13,6 +13,6 @@ with_retired is_retired link = record link { is_retired = is_retired }
 -- no call is out on it or waits for it, none is late, and no end of a connection is awaited
 pub record LinkIsQuiet (link : Link) : Type 0 where
   pub sent : link.calls.sent.items ≡ []
-  pub waiting : link.waiting.items ≡ []
+  pub waiting : link.waiting ≡ []
   pub late : link.late.items ≡ []
   pub draining : link.draining ≡ None

@@ -8,10 +8,14 @@ use Rattle.serve_links.specs.declared.link.Link.{Link}
 use Rattle.serve_links.specs.declared.news.Cause.{Cause}
 use Rattle.serve_links.specs.declared.news.Cause.TheVariants as causes
 
+-- for so many calls that wait for a link there is room from the start, whatever memory there is
+abbrev pub least_waiting : ℕ
+least_waiting = 64
+
 -- how many calls are out on these links: sent, or waiting to be sent
 abbrev pub calls_out : List Link → ℕ
 calls_out [] = 0
-calls_out (link ∷ links) = length link.calls.sent.items + length link.waiting.items + calls_out links
+calls_out (link ∷ links) = length link.calls.sent.items + length link.waiting + calls_out links
 
 -- each of these calls has failed, in this order, and nothing else was done
 abbrev pub AllFail : List SentCall → ServedCore → ServedCore → Type 0
@@ -30,7 +34,7 @@ FailsTo calls left old new = (gone : List SentCall) × (calls ≡ gone ++ left) 
 pub record IsDown (link : Link) : Type 0 where
   pub closed : link.conn ≡ None
   pub sent : link.calls.sent.items ≡ []
-  pub waiting : link.waiting.items ≡ []
+  pub waiting : link.waiting ≡ []
 
 -- the link of this number, if there is one, has no connection, and none of its calls is out
 abbrev pub IsDownAt : ℕ → List Link → Type 0

@@ -38,7 +38,3 @@ pub record SettlesSome (sent : List SentCall) (bytes : List ℕ) (core : ServedC
   pub each : SettlesEach answers sent bytes core sent' bytes' core'
   pub spelled : List ℕ
   pub bytes_are : bytes ≡ spelled ++ bytes'
-
--- calls are settled by some answers with which the bytes begin, or none, one after another, whatever is left of the bytes
-abbrev pub SettlesFront : List SentCall → List ℕ → ServedCore → List SentCall → ServedCore → Type 0
-SettlesFront sent bytes core sent' core' = (rest : List ℕ) × SettlesSome sent bytes core sent' rest core'

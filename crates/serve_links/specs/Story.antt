@@ -1,5 +1,5 @@
 -- What a walk of a core tells of its clients, and how the ends of clients and links on a wire go on with it. Source: mcgate's own.
-use Rattle.std.specs.Prelude.{◌≡◌, ◌≢◌, ℕ, ◌+◌, ◌<◌, ◌≤◌, IfSome, Bool, true, false, List, [], ◌∷◌, ◌++◌, Option, None, Some, map as each, if◌then◌else◌, nat_eq, slice_get, ◌⊎◌}
+use Rattle.std.specs.Prelude.{◌≡◌, ◌≢◌, ℕ, ◌+◌, ◌<◌, ◌≤◌, IfSome, Bool, true, false, List, [], ◌∷◌, ◌++◌, length, Option, None, Some, map as each, if◌then◌else◌, nat_eq, slice_get, ◌⊎◌}
 use Rattle.mc_types.specs.declared.ask.Ask.{Ask}
 use Rattle.mc_types.specs.declared.ask.Dialect.{Dialect}
 use Rattle.wire_parts.specs.Sending.{bytes_of}
@@ -19,10 +19,10 @@ use Rattle.serve_links.specs.declared.calls.late_call.LateCall.{LateCall}
 use Rattle.serve_links.specs.declared.link.Link.{Link}
 use Rattle.serve_links.specs.declared.news.Cause.{Cause}
 use Rattle.serve_links.specs.declared.news.Cause.TheVariants as causes
-use Rattle.serve_links.specs.CoreSteps.{Obstacle, WaitedLong, StoreLate, ForeignCame, LeftAlone, Unseen, Step, Opened, NotOpened, Fed, Polled, Stopped, Settled, Gave, Closed, LeftLine, Broke, Ticked, Loaded, Linked, Asked, Greeted, Spelled, Late, CameLate, Lost, Noted, Walks, StepsAreOf}
+use Rattle.serve_links.specs.CoreSteps.{Obstacle, WaitedLong, StoreLate, ForeignCame, LeftAlone, ManyWait, Step, Opened, NotOpened, Fed, Polled, Stopped, Settled, Gave, Closed, LeftLine, Broke, Ticked, Loaded, Linked, Asked, Greeted, Spelled, Late, CameLate, Lost, Noted, Walks, StepsAreOf}
 use Rattle.serve_links.specs.Shut.{drain_of, AreShut, StaysShut}
 use Rattle.serve_links.specs.Called.{call_in, due_in, clock_in, given_in, TellsCallsOut}
-use Rattle.serve_links.specs.Talks.{SaidAsk, Talk, Apart, InUse, Ending, talk_in, IsCalledIn, MayBeAsked, IsStoreFirst, IsNotAmong, IsNotedFor, AreGivenUp, AreDue, AreCalled, CanNotGo, IsOrderly, IsOfClients, IsOfServer}
+use Rattle.serve_links.specs.Talks.{SaidAsk, Talk, Apart, InUse, Ending, talk_in, IsCalledIn, MayBeAsked, IsStoreFirst, IsNotAmong, AreGivenUp, AreDue, AreCalled, CanNotGo, IsOrderly, IsOfClients, IsOfServer}
 use Rattle.std.specs.Option.{option_map}
 
 -- all that the core was fed for this client since it was opened, by the calls of a walk, the latest first
@@ -222,8 +222,8 @@ AllGivenUp past at calls = ((talk_in past at).out ≡ []) × AreGivenUp past cal
 pub record LineAgrees (at : ℕ) (past : List Step) (h : List WireEvent) (link : Link) : Type 0 where
   pub conn : (conn : Conn) → link.conn ≡ Some conn → ConnAgrees at past h link conn conn.held.items
   pub goes_on : (conn : Conn) → link.conn ≡ Some conn → is_over conn.number h ≡ false
-  pub waiting : MayAllGo past at link.waiting.items
-  pub due : AreDue past at (said_asks link.waiting.items)
+  pub waiting : MayAllGo past at link.waiting
+  pub due : AreDue past at (said_asks link.waiting)
   pub none_out : link.conn ≡ None → AllGivenUp past at (said_asks link.calls.sent.items)
   pub unused : link.conn ≡ None → Unused h at link.text.items (talk_in past at) (drain_of link)
   pub called : AreCalled past at (said_asks link.calls.sent.items)
@@ -233,8 +233,8 @@ pub record LineAgrees (at : ℕ) (past : List Step) (h : List WireEvent) (link :
 -- a link whose bytes were lost, or whose connection is over, agrees with these calls but for what it holds
 pub record LineLost (at : ℕ) (past : List Step) (h : List WireEvent) (link : Link) : Type 0 where
   pub conn : (conn : Conn) → link.conn ≡ Some conn → (held : List ℕ) × ConnAgrees at past h link conn held
-  pub waiting : MayAllGo past at link.waiting.items
-  pub due : AreDue past at (said_asks link.waiting.items)
+  pub waiting : MayAllGo past at link.waiting
+  pub due : AreDue past at (said_asks link.waiting)
   pub none_out : link.conn ≡ None → AllGivenUp past at (said_asks link.calls.sent.items)
   pub unused : link.conn ≡ None → Unused h at link.text.items (talk_in past at) (drain_of link)
   pub called : AreCalled past at (said_asks link.calls.sent.items)
@@ -255,7 +255,11 @@ IsForeign None (call ∷ calls) bytes = IsForeignIn call.1 call.2 bytes
 abbrev pub IsBegunBefore : (limit c : ℕ) → List WireEvent → Type 0
 IsBegunBefore limit c h = (begun : List ℕ × ℕ) × BeginAgrees h begun c × (begun.1 + limit < time h)
 
--- what the wire shows, or what was said, of a connection that is given up for this cause, where it may take so many milliseconds until it takes calls: it has taken longer, or has ended, or has failed, or what it delivered behind all that told something is foreign, or reads were in vain while calls are out there, or late answers were to come, or that to a store, or the end of one that can't be kept. For want of a connection none is given up
+-- where so many bytes came over a connection behind all that told something, it may be given up
+abbrev pub most_held : ℕ
+most_held = 4194304
+
+-- what the wire shows, or what was said, of a connection that is given up for this cause, where it may take so many milliseconds until it takes calls: it has taken longer, or has ended, or has failed, or what it delivered behind all that told something is foreign, or too much, or reads were in vain while calls are out there, or late answers were to come, or that to a store, or the end of one that can't be kept. For want of a connection none is given up
 abbrev pub Shows : Cause → (limit : ℕ) → Talk → ℕ → List WireEvent → Type 0
 Shows causes.Unreachable limit talk c h = ⊥
 Shows causes.ConnectLate limit talk c h = IsBegunBefore limit c h
@@ -263,7 +267,7 @@ Shows causes.AnswerLate limit talk c h = (talk.late ≢ []) ⊎ IsStoreFirst tal
 Shows causes.Closed limit talk c h = HasHappened (ends c) h
 Shows causes.Broken limit talk c h = HasHappened (fails c) h
 Shows causes.ForeignAnswer limit talk c h = (held : List ℕ) × (delivered c h ≡ talk.told ++ held) × IsForeign talk.awaits (talk.late ++ talk.out) held
-Shows causes.NoRoom limit talk c h = Unit {0}
+Shows causes.NoRoom limit talk c h = (held : List ℕ) × (delivered c h ≡ talk.told ++ held) × (most_held ≤ length held)
 Shows causes.VainReads limit talk c h = talk.out ≢ []
 
 -- what the wire shows, or what was said, of a connection that is given up for a cause, if it is for one
@@ -292,7 +296,7 @@ ObstacleIsShown ForeignCame at past h = WasShown (Some causes.ForeignAnswer) 0 a
 ObstacleIsShown (WaitedLong number limit) at past h = Unit {0}
 ObstacleIsShown (StoreLate limit) at past h = Unit {0}
 ObstacleIsShown (LeftAlone limit) at past h = Unit {0}
-ObstacleIsShown (Unseen why) at past h = Unit {0}
+ObstacleIsShown ManyWait at past h = Unit {0}
 
 -- where a connection is given up by this step, or what came over it is foreign, it showed why at some time; and where a call is late, the clock showed by then what it is late by
 abbrev pub StepIsShown : Step → List Step → List WireEvent → Type 0
@@ -327,17 +331,17 @@ pub record LineFails (why : Option Cause) (at : ℕ) (past : List Step) (h : Lis
   pub lost : LineLost at past h link
   pub shows : (conn : Conn) → link.conn ≡ Some conn → ShowsWhy why link.limits.connect_ms (talk_in past at) conn.number h
 
--- and what nothing shows of that was just noted
-abbrev pub LineLeaves : (why : Option Cause) (at : ℕ) → List Step → List WireEvent → Link → Type 0
-LineLeaves why at past h link = LineFails why at past h link × IsNotedFor why at past
-
 -- what the link holds is foreign
 abbrev pub LineIsForeign : Link → Type 0
 LineIsForeign link = IfSome link.conn (λ conn. IsForeign link.awaits_dialect (said_late link.late.items ++ said_asks link.calls.sent.items) conn.held.items)
 
+-- so much is held of a link's connection that it may be given up
+abbrev pub HoldsMost : Link → Type 0
+HoldsMost link = IfSome link.conn (λ conn. most_held ≤ length conn.held.items)
+
 -- a link agrees, and this call may go there, and wasn't asked yet
 abbrev pub LineCalled : SentCall → (at : ℕ) → List Step → List WireEvent → Link → Type 0
-LineCalled call at past h link = LineAgrees at past h link × MayGo past at call × AreDue past at (said_asks (call ∷ link.waiting.items))
+LineCalled call at past h link = LineAgrees at past h link × MayGo past at call × AreDue past at (said_asks (call ∷ link.waiting))
 
 -- each link agrees with these calls
 abbrev pub LinesAgree : List Step → List WireEvent → List Link → Type 0
@@ -357,7 +361,7 @@ abbrev pub LineState : Type 0
 LineState = ((List ℕ × LinkLimits) × ℕ × ℕ) × Option (ℕ × List ℕ × List ℕ) × List SaidAsk × List SentCall × Option Greeting × Dialect × List SaidAsk × Option ℕ
 
 abbrev pub line_of : Link → LineState
-line_of link = (server_and_opened link, option_map (λ (x : Conn). (x.number, x.held.items, bytes_of x.unsent)) link.conn, said_asks link.calls.sent.items, link.waiting.items, link.awaits_dialect, link.dialect, said_late link.late.items, drain_of link)
+line_of link = (server_and_opened link, option_map (λ (x : Conn). (x.number, x.held.items, bytes_of x.unsent)) link.conn, said_asks link.calls.sent.items, link.waiting, link.awaits_dialect, link.dialect, said_late link.late.items, drain_of link)
 
 -- a call that waits, or a store, has taken longer than these limits say, where there are some; or a server is left alone after as many failures as they say
 abbrev pub ObstacleIsByLimit : Option LinkLimits → Obstacle → Type 0
@@ -365,7 +369,7 @@ ObstacleIsByLimit most (WaitedLong number limit) = option_map (λ (limits : Link
 ObstacleIsByLimit most (StoreLate limit) = option_map (λ (limits : LinkLimits). limits.call_ms) most ≡ Some limit
 ObstacleIsByLimit most ForeignCame = Unit {0}
 ObstacleIsByLimit most (LeftAlone limit) = option_map (λ (limits : LinkLimits). limits.fail_limit) most ≡ Some limit
-ObstacleIsByLimit most (Unseen why) = Unit {0}
+ObstacleIsByLimit most ManyWait = Unit {0}
 
 -- a step by which a call is late, or has waited long, tells for how long those of its server may take, one by which a server is left alone after how many failures, and one by which a connection is given up for how long it may take until it takes calls, where this says the limits of each server
 abbrev pub IsByLimit : (ℕ → Option LinkLimits) → Step → Type 0
@@ -498,14 +502,14 @@ AgreesCalled number at ask past x = Agrees past x × (call : IsCalledIn past num
 -- all agree, and this call may go to this server, and wasn't asked yet
 abbrev pub AgreesSent : ℕ → SentCall → List Step → AnEnd → Type 0
 AgreesSent at call past x =
-    Agrees past x × MayGo past at call × ((link : Link) → slice_get x.links at ≡ Some link → AreDue past at (said_asks (call ∷ link.waiting.items))) × AreDue past at (said_asks (call ∷ []))
+    Agrees past x × MayGo past at call × ((link : Link) → slice_get x.links at ≡ Some link → AreDue past at (said_asks (call ∷ link.waiting))) × AreDue past at (said_asks (call ∷ []))
 
 -- a call of this number is still to be asked of this server, was given out by this time, and doesn't wait for a link
 pub record IsInHand (number at since : ℕ) (past : List Step) (links : List Link) : Type 0 where
   pub ask : Ask
   pub due : due_in past number ≡ Some (at, ask)
   pub given : given_in past number ≤ since
-  pub apart : (link : Link) → slice_get links at ≡ Some link → IsNotAmong number (said_asks link.waiting.items)
+  pub apart : (link : Link) → slice_get links at ≡ Some link → IsNotAmong number (said_asks link.waiting)
 
 -- all agree, and a call of this number is in hand
 abbrev pub AgreesDue : (number at since : ℕ) → List Step → AnEnd → Type 0

@@ -10,14 +10,13 @@ use Rattle.wire_stream.specs.Spelling.{spelling_of}
 use Rattle.core_accepted.specs.Late.{begins_stamp}
 use Rattle.core_commands.specs.declared.ticket.Ticket.{Ticket}
 use Rattle.core_proxy.specs.declared.note.Poll.TheVariants as polls
-use Rattle.core_accepted.specs.declared.tally.Unshown.{Unshown}
-use Rattle.core_accepted.specs.declared.tally.Unshown.TheVariants as unshown
 use Rattle.serve_links.specs.declared.news.Cause.{Cause}
 use Rattle.serve_links.specs.declared.news.Cause.TheVariants as causes
 use Rattle.serve_links.specs.Dialects.{asked_in, SpellsIn, GreetsAwaited, awaits_flush}
 use Rattle.serve_links.specs.declared.settings.Greeting.{Greeting}
 use Rattle.serve_links.specs.Lines.{first_asked_of, awaits_first, first_dialect}
-use Rattle.serve_links.specs.CoreSteps.{Obstacle, WaitedLong, StoreLate, ForeignCame, LeftAlone, Unseen, Step, Opened, NotOpened, Fed, Polled, Stopped, Settled, Gave, Closed, LeftLine, Broke, Ticked, Loaded, Linked, Asked, Greeted, Spelled, Late, CameLate, Lost, Noted}
+use Rattle.serve_links.specs.CoreSteps.{Obstacle, WaitedLong, StoreLate, ForeignCame, LeftAlone, ManyWait, Step, Opened, NotOpened, Fed, Polled, Stopped, Settled, Gave, Closed, LeftLine, Broke, Ticked, Loaded, Linked, Asked, Greeted, Spelled, Late, CameLate, Lost, Noted}
+use Rattle.serve_links.specs.Links.{least_waiting}
 use Rattle.serve_links.specs.Called.{call_in, due_in, clock_in, given_in, IsGivenOnce}
 
 -- a call that a server was asked: its number, in which dialect it was asked, its ask, and since when its time counts
@@ -150,18 +149,6 @@ pub record MayBeAsked (steps : List Step) (number at : ℕ) (dialect : Dialect) 
   pub called : IsCalledIn earlier number at ask
   pub speaks : (talk_in earlier at).dialect ≡ dialect
 
--- where it is given up as there was no room for what came, that was noted in the last step
-abbrev pub IsNotedFor : Option Cause → (at : ℕ) → List Step → Type 0
-IsNotedFor None at steps = Unit {0}
-IsNotedFor (Some causes.Unreachable) at steps = Unit {0}
-IsNotedFor (Some causes.ConnectLate) at steps = Unit {0}
-IsNotedFor (Some causes.AnswerLate) at steps = Unit {0}
-IsNotedFor (Some causes.Closed) at steps = Unit {0}
-IsNotedFor (Some causes.Broken) at steps = Unit {0}
-IsNotedFor (Some causes.ForeignAnswer) at steps = Unit {0}
-IsNotedFor (Some causes.NoRoom) at steps = (earlier : List Step) × (steps ≡ Noted at (Unseen unshown.NoRoom) ∷ earlier)
-IsNotedFor (Some causes.VainReads) at steps = Unit {0}
-
 -- none of these calls has this number
 abbrev pub IsNotAmong : ℕ → List SaidAsk → Type 0
 IsNotAmong n [] = Unit {0}
@@ -253,18 +240,13 @@ abbrev pub AreGivenUp : List Step → List SaidAsk → Type 0
 AreGivenUp steps [] = Unit {0}
 AreGivenUp steps (said ∷ others) = WasGivenUp said.0 steps × AreGivenUp steps others
 
--- refused memory keeps any call from being sent, but not that there was no room for what came: by that a connection is given up
-abbrev pub KeepsBack : Unshown → Type 0
-KeepsBack unshown.NoMemory = Unit {0}
-KeepsBack unshown.NoRoom = ⊥
-
 -- an obstacle keeps the call of this number from being sent
 abbrev pub IsFor : ℕ → Obstacle → Type 0
 IsFor n (WaitedLong number limit) = number ≡ n
 IsFor n (StoreLate limit) = Unit {0}
 IsFor n ForeignCame = Unit {0}
 IsFor n (LeftAlone limit) = Unit {0}
-IsFor n (Unseen why) = KeepsBack why
+IsFor n ManyWait = Unit {0}
 
 -- in the last step an obstacle was noted of this server that keeps the call of this number from being sent
 pub record IsKeptBack (number at : ℕ) (steps : List Step) : Type 0 where
@@ -288,13 +270,17 @@ pub record IsUnsent (number : ℕ) (steps : List Step) : Type 0 where
 abbrev pub FailsFor : ℕ → List Step → Type 0
 FailsFor number steps = IsUnsent number steps ⊎ WasGivenUp number steps ⊎ WasLate number steps
 
--- an obstacle may be noted of this server: the call is still to be asked and was given out longer before than it may wait; a store is the first of the calls that are out there, and one of them has taken longer than it may; and a server is left alone that had as many connections in a row given up as are allowed since it answered a call, while another call tries it
+-- as many calls are still to be asked of this server as there is always room for
+abbrev pub HaveManyDue : (at : ℕ) → List Step → Type 0
+HaveManyDue at past = (calls : List SaidAsk) × AreDue past at calls × (least_waiting ≤ length calls)
+
+-- an obstacle may be noted of this server: the call is still to be asked and was given out longer before than it may wait; a store is the first of the calls that are out there, and one of them has taken longer than it may; and a server is left alone that had as many connections in a row given up as are allowed since it answered a call, while another call tries it; and as many calls wait for one as there is always room for
 abbrev pub IsTold : Obstacle → (at : ℕ) → List Step → Type 0
 IsTold (WaitedLong number limit) at past = given_in past number + limit < clock_in past
 IsTold (StoreLate limit) at past = IsStoreFirst (talk_in past at).out × HasWaited limit (clock_in past) (talk_in past at).out
 IsTold ForeignCame at past = Unit {0}
 IsTold (LeftAlone limit) at past = (limit ≤ (talk_in past at).failed) × ((talk_in past at).out ≢ [])
-IsTold (Unseen why) at past = Unit {0}
+IsTold ManyWait at past = HaveManyDue at past
 
 -- the core has a call of this number out, and no server has it, or has it any more
 pub record MaySettle (number : ℕ) (steps : List Step) : Type 0 where
@@ -308,7 +294,7 @@ ComesBy number (Answered answer) past = IsJustSpelled number answer past
 ComesBy number Failed past = FailsFor number past
 
 -- after these steps this one may come: a connection is begun where none is there, also none whose end is awaited; over one that is in use a server is asked what the core gave out for it last under that number, once, in a dialect that it speaks, its time counting from then or later, and neither while late answers are still to come nor before it said that it emptied itself where it is to do that first; tells of its dialects where it is asked for that, and then answers its calls in
--- their order, those that are late too, whose answers settle nothing; the first of those that are out is late once one of them, or of those that were late before it, has waited too long; a call is settled that no server has, by its answer, or as it failed for a reason; an obstacle is noted that is there; a connection is given up for want of room where that was just noted; and none is given out while one of its number is out
+-- their order, those that are late too, whose answers settle nothing; the first of those that are out is late once one of them, or of those that were late before it, has waited too long; a call is settled that no server has, by its answer, or as it failed for a reason; an obstacle is noted that is there; and none is given out while one of its number is out
 abbrev pub MayComeNext : Step → List Step → Type 0
 MayComeNext (Asked at number dialect ask since) past = MayBeAsked past number at dialect ask × (due_in past number ≡ Some (at, ask)) × ((talk_in past at).late ≡ []) × (awaits_flush (talk_in past at).awaits ≡ false) × (given_in past number ≤ since) × ((talk_in past at).stands ≡ InUse)
 MayComeNext (Greeted at dialect bytes) past = GreetsAwaited (talk_in past at).awaits dialect bytes
@@ -318,7 +304,7 @@ MayComeNext (CameLate at number ask answer bytes) past = IsNextLate number ask a
 MayComeNext (Spelled at number ask answer bytes) past = IsNextAnswer number ask answer bytes (talk_in past at)
 MayComeNext (Settled number outcome) past = MaySettle number past × ComesBy number outcome past
 MayComeNext (Linked at dialect) past = (talk_in past at).stands ≡ Apart
-MayComeNext (Lost at why limit) past = IsNotedFor why at past
+MayComeNext (Lost at why limit) past = Unit {0}
 MayComeNext (Opened client) past = Unit {0}
 MayComeNext (NotOpened fault) past = Unit {0}
 MayComeNext (Fed client piece) past = Unit {0}

@@ -1,17 +1,13 @@
 -- Why calls of a server fail that never go out. Source: mcgate's own.
-use Rattle.std.specs.Prelude.{◌≡◌, ◌≢◌, ◌⊎◌, ℕ, true, false, ◌+◌, ◌<◌, ◌≤◌, List, [], ◌∷◌, None, IsSome}
+use Rattle.std.specs.Prelude.{◌≡◌, ◌≢◌, ◌⊎◌, ℕ, true, false, ◌+◌, ◌<◌, ◌≤◌, List, [], ◌∷◌, length, None, IsSome}
 use Rattle.serve_links.specs.declared.calls.calls.SentCall.{SentCall}
 use Rattle.serve_links.specs.declared.link.Link.{Link}
-use Rattle.serve_links.specs.declared.news.Cause.{Cause}
-use Rattle.serve_links.specs.declared.news.Cause.TheVariants as causes
 use Rattle.serve_links.specs.declared.refusal.Refusal.{Refusal}
 use Rattle.serve_links.specs.declared.refusal.Refusal.TheVariants as refusals
-use Rattle.core_accepted.specs.declared.served.ServedCore.{ServedCore}
-use Rattle.core_accepted.specs.declared.tally.Unshown.TheVariants as unshown
-use Rattle.serve_links.specs.CoreSteps.{Unseen, Notes}
 use Rattle.serve_links.specs.Dialects.{awaits_flush}
 use Rattle.serve_links.specs.Epochs.{is_retired}
 use Rattle.serve_links.specs.Lateness.{HasLate, awaits_store}
+use Rattle.serve_links.specs.Links.{least_waiting}
 use Rattle.serve_links.specs.Story.{said_asks, LineIsForeign}
 use Rattle.serve_links.specs.Talks.{HasWaited}
 
@@ -55,9 +51,9 @@ FirstIs Is (call ∷ calls) = Is call
 
 -- the first call that waits for it is to wait no longer: it has no connection, its server is late, or that call has waited for more milliseconds than it may to go out, by the clock of calls that wait
 abbrev pub WaitsTooLong : (pace : ℕ) → Link → Type 0
-WaitsTooLong pace link = (link.conn ≡ None) ⊎ IsServerLate link ⊎ (FirstIs (λ call. call.paced + link.limits.call_ms < pace) link.waiting.items × (link.waiting.items ≢ []))
+WaitsTooLong pace link = (link.conn ≡ None) ⊎ IsServerLate link ⊎ (FirstIs (λ call. call.paced + link.limits.call_ms < pace) link.waiting × (link.waiting ≢ []))
 
--- a call that was given out by this time isn't sent over a link for this reason, which isn't that memory was refused, when a clock shows this
+-- a call that was given out by this time isn't sent over a link for this reason, which isn't that many wait, when a clock shows this
 abbrev pub IsRefused : Refusal → (since now : ℕ) → Link → Type 0
 IsRefused refusals.NoConnection since now link = link.conn ≡ None
 IsRefused refusals.ServerLate since now link = IsSome link.conn × (link.late.items ≢ [])
@@ -66,30 +62,8 @@ IsRefused refusals.Emptying since now link = IsSome link.conn × (awaits_flush l
 IsRefused refusals.ForeignCame since now link = IsSome link.conn × LineIsForeign link
 IsRefused refusals.WaitedLong since now link = since + link.limits.call_ms < now
 IsRefused refusals.LeftAlone since now link = IsSome link.conn × IsLeftAlone link
-IsRefused refusals.NoMemory since now link = ⊥
+IsRefused refusals.ManyWait since now link = ⊥
 
--- it isn't sent for such a reason, or as memory was refused for it
+-- it isn't sent for such a reason, or as many calls wait for the link as there is always room for
 abbrev pub IsHindered : Refusal → (since now : ℕ) → Link → Type 0
-IsHindered why since now link = (why ≡ refusals.NoMemory) ⊎ IsRefused why since now link
-
--- a call isn't sent for this reason: refused memory, which nothing shows, is counted
-abbrev pub NotesRefusal : Refusal → ServedCore → ServedCore → Type 0
-NotesRefusal refusals.NoConnection old new = new ≡ old
-NotesRefusal refusals.ServerLate old new = new ≡ old
-NotesRefusal refusals.StoreLate old new = new ≡ old
-NotesRefusal refusals.Emptying old new = new ≡ old
-NotesRefusal refusals.ForeignCame old new = new ≡ old
-NotesRefusal refusals.WaitedLong old new = new ≡ old
-NotesRefusal refusals.LeftAlone old new = new ≡ old
-NotesRefusal refusals.NoMemory old new = Notes (Unseen unshown.NoMemory) old new
-
--- a link is given up for this cause: what nothing shows is counted
-abbrev pub NotesCause : Cause → ServedCore → ServedCore → Type 0
-NotesCause causes.Unreachable old new = new ≡ old
-NotesCause causes.ConnectLate old new = new ≡ old
-NotesCause causes.AnswerLate old new = new ≡ old
-NotesCause causes.Closed old new = new ≡ old
-NotesCause causes.Broken old new = new ≡ old
-NotesCause causes.ForeignAnswer old new = new ≡ old
-NotesCause causes.NoRoom old new = Notes (Unseen unshown.NoRoom) old new
-NotesCause causes.VainReads old new = new ≡ old
+IsHindered why since now link = ((why ≡ refusals.ManyWait) × (least_waiting ≤ length link.waiting)) ⊎ IsRefused why since now link

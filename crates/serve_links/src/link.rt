@@ -2,7 +2,7 @@
 
 ghost use Rattle.std.specs.Prelude.{◌≡◌, ℕ, ◌≢◌, ◌⊎◌, not, true, IfSome, IsSome, ◌+◌, ◌<◌, ◌≤◌, ◌++◌, false, ◌∷◌, [], None, length, MatchOption, IfOk, IfErr, OnOk, OnErr, option_map};
 ghost use Rattle.mc_types.specs.declared.ask.Dialect.TheVariants.{Classic};
-ghost use Rattle.serve_links.specs.Links.{IsDown, CallIsTaken, vain_cause};
+ghost use Rattle.serve_links.specs.Links.{IsDown, CallIsTaken, least_waiting, vain_cause};
 ghost use Rattle.serve_links.specs.Calls.{stores_first};
 ghost use Rattle.serve_links.specs.Lateness.{HasLate, awaits_store, AwaitsLate, IsUnready, IsConnectLate, IsReadBy, may_give};
 ghost use Rattle.wire_parts.specs.Sending.{bytes_of};
@@ -20,18 +20,22 @@ use crate::news::{Cause, LinkNews};
 use crate::refusal::{NotSent, Refusal};
 use crate::settings::{Greeting, LinkLimits, ServerDialect, Settings};
 use crate::tally::LinkTally;
+use crate::waiting::WaitLine;
 use mc_types::Dialect;
 use serve_clients::Clients;
 use serve_wire::conn::{Conn, Got, Limits};
 use serve_wire::{Connected, Ready, Wire};
-use std::alloc::{AllocError, AllocFailed, Global};
+use std::alloc::{AllocError, Global};
 use std::collections::VecDeque;
 use std::net::Net;
 use wire_stream::meta_gets::{DialectRead, write_noop};
 
-// An answer is shorter than what is held at most. No further call goes out while so much is to be sent.
+/// Where so many bytes are held of a connection, in which no whole answer stands, it is given up: an answer is shorter.
+pub const MOST_HELD: usize = 4_194_304;
+
+// No further call goes out while so much is to be sent.
 const LIMITS: Limits = Limits {
-    held: 4_194_304,
+    held: MOST_HELD,
     unsent: 1_048_576,
 };
 
@@ -212,7 +216,7 @@ pub struct Link {
     // When a call was late last, or since when the end of a connection is awaited, in milliseconds.
     late_since: u64,
     // Calls that wait until the server takes more, the one that came first in front. Some are out while one waits.
-    waiting: VecDeque<SentCall>,
+    waiting: WaitLine,
     /// In which dialect calls go out from now on.
     pub dialect: Dialect,
     /// What its server was asked first, where the answer to that is still to come, before those to all calls.
@@ -239,6 +243,10 @@ pub struct Link {
     held_until: u64,
     /// How many reads in a row brought no whole answer.
     pub vain_reads: u32,
+    /// Whether memory was refused for the last read of its connection: until one is made no call goes out over it.
+    pub is_starved: bool,
+    /// Whether memory was refused for reading the answer in front of what is held: until it is read no call goes out over it.
+    pub has_unread: bool,
     /// How many bytes the answer takes whose begin is held, where it has large data and its first line told so.
     pub awaited: Option<usize>,
     /// Whether the last read filled its room, so that more is there.
@@ -274,10 +282,18 @@ impl Link {
         ensures lost { IfOk result (λ link. link.lost ≡ 0) }
     {
         let text = text.to_vec(alloc)?;
-        Ok(Link::of(alloc, text, flushes, limits))
+        let waiting = WaitLine::new(alloc)?;
+        Ok(Link::of(alloc, text, flushes, limits, waiting))
     }
 
-    fn of(alloc: Global, text: Vec<u8>, flushes: bool, limits: LinkLimits) -> Link
+    fn of(
+        alloc: Global,
+        text: Vec<u8>,
+        flushes: bool,
+        limits: LinkLimits,
+        waiting: WaitLine,
+    ) -> Link
+        requires { waiting ≡ [] }
         ensures down { IsDown result }
         ensures drained { result.draining ≡ None }
         ensures awaits { result.awaits_dialect ≡ None }
@@ -296,7 +312,7 @@ impl Link {
             calls: LinkCalls::new(alloc),
             late: VecDeque::new(alloc),
             late_since: 0,
-            waiting: VecDeque::new(alloc),
+            waiting,
             dialect: Dialect::Classic,
             awaits_dialect: None,
             flushes,
@@ -310,6 +326,8 @@ impl Link {
             tally: LinkTally::new(),
             held_until: 0,
             vain_reads: 0,
+            is_starved: false,
+            has_unread: false,
             awaited: None,
             reads_long: false,
             is_ready: false,
@@ -444,11 +462,19 @@ impl Link {
         }
     }
 
-    // Whether it takes calls: it isn't retired, its server needn't empty itself first, it has places, and no backlog.
+    /// Whether memory was refused for what came over its connection, and that is still to be read.
+    pub fn lacks_memory(&self) -> bool {
+        self.is_starved || self.has_unread
+    }
+
+    // Whether it takes calls: it isn't retired, its server needn't empty itself first, it has places, no backlog, and what came over it was read.
     fn takes_calls(&self, places: usize) -> bool
         ensures { is_retired self.now ≡ true → result ≡ false }
     {
-        !self.is_retired && !self.awaits_flush() && self.calls.len() < places && !self.has_backlog()
+        if self.is_retired || self.lacks_memory() || self.awaits_flush() {
+            return false;
+        }
+        self.calls.len() < places && !self.has_backlog()
     }
 
     // Whether the call that has waited longest is bulk, and has no room.
@@ -470,22 +496,28 @@ impl Link {
         !self.waiting.is_empty() && (bulk > 0 || !self.holds_bulk())
     }
 
-    /// The call waits. Where memory was refused it is given back.
+    /// The call waits, behind all others. It is given back only where memory was refused, and [`crate::LEAST_WAITING`] calls wait or more.
     pub fn let_wait(&mut self, call: SentCall) -> Result<(), SentCall>
         ensures rest { self.new ≡ record self.old { waiting = self.new.waiting } }
-        ensures ok { OnOk result (self.new.waiting.items ≡ self.old.waiting.items ++ call ∷ []) }
-        ensures err { IfErr result (λ given. (given ≡ call) × (self.new.waiting.items ≡ self.old.waiting.items)) }
+        ensures ok { OnOk result (self.new.waiting ≡ self.old.waiting ++ call ∷ []) }
+        ensures err { IfErr result (λ given. (given ≡ call) × (self.new.waiting ≡ self.old.waiting) × (least_waiting ≤ length self.old.waiting)) }
     {
-        match self.waiting.push_back(call) {
-            Ok(()) => Ok(()),
-            Err(AllocFailed { value }) => Err(value),
-        }
+        self.waiting.push_back(call)
+    }
+
+    /// The call waits, before all others. It is given back only where memory was refused, and [`crate::LEAST_WAITING`] calls wait or more.
+    pub fn wait_first(&mut self, call: SentCall) -> Result<(), SentCall>
+        ensures rest { self.new ≡ record self.old { waiting = self.new.waiting } }
+        ensures ok { OnOk result (self.new.waiting ≡ call ∷ self.old.waiting) }
+        ensures err { IfErr result (λ given. (given ≡ call) × (self.new.waiting ≡ self.old.waiting) × (least_waiting ≤ length self.old.waiting)) }
+    {
+        self.waiting.push_front(call)
     }
 
     /// The first of the calls that wait.
     pub fn next_waiting(&mut self) -> Option<SentCall>
-        ensures waiting { MatchOption result (self.new.waiting.items ≡ self.old.waiting.items) (λ call. self.old.waiting.items ≡ call ∷ self.new.waiting.items) }
-        ensures none { result ≡ None → self.old.waiting.items ≡ [] }
+        ensures waiting { MatchOption result (self.new.waiting ≡ self.old.waiting) (λ call. self.old.waiting ≡ call ∷ self.new.waiting) }
+        ensures none { result ≡ None → self.old.waiting ≡ [] }
         ensures rest { self.new ≡ record self.old { waiting = self.new.waiting } }
     {
         self.waiting.pop_front()
@@ -504,7 +536,7 @@ impl Link {
     // The place of the first that may go out: those that are bulk may have no room.
     fn place_to_go(&self, clients: &Clients) -> Option<usize> {
         let mut place = 0usize;
-        for call in self.waiting.iter() {
+        for call in self.waiting.all().iter() {
             if self.has_room_now(call, clients) {
                 return Some(place);
             }
@@ -517,7 +549,7 @@ impl Link {
     #[tactic(auto, using(crate::proofs::Taking::taken))]
     pub fn next_to_go(&mut self, places: usize, clients: &Clients) -> Option<SentCall>
         ensures retired { is_retired self.old ≡ true → result ≡ None }
-        ensures waiting { MatchOption result (self.new.waiting.items ≡ self.old.waiting.items) (λ call. CallIsTaken self.old.waiting.items call self.new.waiting.items) }
+        ensures waiting { MatchOption result (self.new.waiting ≡ self.old.waiting) (λ call. CallIsTaken self.old.waiting call self.new.waiting) }
         ensures rest { self.new ≡ record self.old { waiting = self.new.waiting } }
     {
         if !self.takes_calls(places) {
@@ -529,7 +561,7 @@ impl Link {
 
     /// The first of the calls that wait, if it has waited too long to go out, by the clock of calls that wait and by the wire's, which shows `now`, or none goes out for now; and why.
     pub fn next_too_late(&mut self, pace: u64, now: u64) -> Option<NotSent>
-        ensures waiting { MatchOption result (self.new.waiting.items ≡ self.old.waiting.items) (λ it. self.old.waiting.items ≡ it.call ∷ self.new.waiting.items) }
+        ensures waiting { MatchOption result (self.new.waiting ≡ self.old.waiting) (λ it. self.old.waiting ≡ it.call ∷ self.new.waiting) }
         ensures refused { IfSome result (λ it. IsRefused it.why it.call.since now self.new) }
         ensures late { IsSome result → WaitsTooLong pace self.old }
         ensures rest { self.new ≡ record self.old { waiting = self.new.waiting } }
@@ -541,7 +573,7 @@ impl Link {
 
     // Why the first of those that wait waits no longer, if it doesn't.
     fn first_refusal(&self, pace: u64, now: u64) -> Option<Refusal>
-        ensures refused { IfSome result (λ why. FirstIs (λ call. IsRefused why call.since now self.now) self.now.waiting.items) }
+        ensures refused { IfSome result (λ why. FirstIs (λ call. IsRefused why call.since now self.now) self.now.waiting) }
         ensures late { IsSome result → WaitsTooLong pace self.now }
     {
         match self.line_refusal(now) {
@@ -570,8 +602,8 @@ impl Link {
 
     // Whether the first of those that wait has waited so long by both clocks.
     fn has_waited_long(&self, pace: u64, now: u64) -> bool
-        ensures paced { result ≡ true → FirstIs (λ call. call.paced + self.now.limits.call_ms < pace) self.now.waiting.items × (self.now.waiting.items ≢ []) }
-        ensures since { result ≡ true → FirstIs (λ call. call.since + self.now.limits.call_ms < now) self.now.waiting.items }
+        ensures paced { result ≡ true → FirstIs (λ call. call.paced + self.now.limits.call_ms < pace) self.now.waiting × (self.now.waiting ≢ []) }
+        ensures since { result ≡ true → FirstIs (λ call. call.since + self.now.limits.call_ms < now) self.now.waiting }
     {
         let Some(call) = self.waiting.front() else {
             return false;
@@ -590,14 +622,14 @@ impl Link {
 
     /// How many calls wait.
     pub fn waiting(&self) -> usize
-        ensures { result ≡ length self.now.waiting.items }
+        ensures { result ≡ length self.now.waiting }
     {
         self.waiting.len()
     }
 
     /// What is left of a number after the calls that are out, if they are no more than that.
     pub fn without_calls(&self, count: usize) -> Option<usize>
-        ensures { MatchOption result (count < length self.now.calls.sent.items + length self.now.waiting.items) (λ left. length self.now.calls.sent.items + length self.now.waiting.items + left ≡ count) }
+        ensures { MatchOption result (count < length self.now.calls.sent.items + length self.now.waiting) (λ left. length self.now.calls.sent.items + length self.now.waiting + left ≡ count) }
     {
         let sent = self.calls.len();
         if count < sent {
@@ -671,7 +703,7 @@ impl Link {
     fn is_read_by(&self, now: u64) -> bool
         ensures { result ≡ true → IsReadBy now self.now }
     {
-        now <= self.asked_at && !self.may_have_more()
+        now <= self.asked_at && !self.may_have_more() && !self.has_unread
     }
 
     /// What it has waited for too long by now. It isn't late before all that has come over its connection by now was read.
@@ -888,6 +920,8 @@ impl Link {
         self.conn = Some(conn);
         self.opened = now;
         self.vain_reads = 0;
+        self.is_starved = false;
+        self.has_unread = false;
         self.awaited = None;
         self.reads_long = false;
         self.is_connected = false;
@@ -1113,6 +1147,8 @@ impl Link {
             unconnected(cause)
         };
         self.is_connected = false;
+        self.is_starved = false;
+        self.has_unread = false;
         self.was_down = true;
         self.failures = self.failures.saturating_add(1);
         self.tally.note_failed(cause);

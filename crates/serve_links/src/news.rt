@@ -21,7 +21,7 @@ pub enum Cause {
     Broken,
     /// The server sent what begins no answer to the oldest call, or what nothing asked for.
     ForeignAnswer,
-    /// There was no room for what it sent: memory was refused for reading it, or as much was held of it as may be.
+    /// There was no room for what it sent: as much was held of it as may be ([`crate::MOST_HELD`]), with no whole answer in it.
     NoRoom,
     /// As many reads in a row as were set brought no whole answer.
     VainReads,
@@ -92,7 +92,7 @@ fn words_of(cause: Cause) -> &'static str {
         Cause::Closed => "it closed the connection",
         Cause::Broken => "reading or writing failed",
         Cause::ForeignAnswer => "it sent what is no answer to the oldest call",
-        Cause::NoRoom => "there was no room for what it sent",
+        Cause::NoRoom => "it sent too much that is no whole answer",
         Cause::VainReads => "too many reads brought no whole answer",
     }
 }

@@ -1,7 +1,7 @@
 //! The outcomes of a link's calls, for the core and the clients: answers settle them, or they fail.
 
-ghost use Rattle.std.specs.Prelude.{◌≡◌, ◌≢◌, ◌⊎◌, ◌≤◌, ℕ, List, length, true, false, ◌++◌, [], drop, None, Some, IfSome};
-ghost use Rattle.serve_wire.specs.Ends.{HoldsAnew};
+ghost use Rattle.std.specs.Prelude.{◌≡◌, ◌≢◌, ◌⊎◌, ◌≤◌, ◌+◌, ℕ, List, length, false, ◌++◌, [], drop, None, Some, IfSome};
+ghost use Rattle.serve_wire.specs.Ends.{HasRoomAgain, HoldsAnew};
 ghost use Rattle.serve_clients.specs.Agrees.{KeepsEnds};
 ghost use Rattle.serve_wire.specs.Events.{WireEvent, time};
 ghost use Rattle.serve_links.specs.CoreSteps.{GoesBy, IsSettlement, IsSending, OnlyFails};
@@ -9,7 +9,7 @@ ghost use Rattle.serve_links.specs.Story.{LineGoes};
 ghost use Rattle.core_accepted.specs.declared.served.ServedCore.{ServedCore};
 ghost use Rattle.serve_links.specs.Lateness.{HasLate, HasOneLate, LetsStoresWait};
 ghost use Rattle.serve_links.specs.Links.{AllFail, FailsTo, IsDown};
-ghost use Rattle.serve_links.specs.Settled.{HoldsNoAnswer, HoldsForeign, SettlesSome, SettlesFront};
+ghost use Rattle.serve_links.specs.Settled.{HoldsNoAnswer, HoldsForeign, SettlesSome};
 
 use crate::calls::{Left, LinkCalls, Next, fail_call};
 use crate::link::Link;
@@ -45,9 +45,9 @@ fn fail_sent(calls: &mut LinkCalls, core: &mut ServedCore, clients: &mut Clients
 fn fail_waiting(link: &mut Link, core: &mut ServedCore, clients: &mut Clients)
     requires { link.old.conn ≡ None }
     ensures core { OnlyFails core.old core.new }
-    ensures none { link.new.waiting.items ≡ [] }
-    ensures all { AllFail link.old.waiting.items core.old core.new }
-    ensures first { FailsTo link.old.waiting.items link.new.waiting.items core.old core.new }
+    ensures none { link.new.waiting ≡ [] }
+    ensures all { AllFail link.old.waiting core.old core.new }
+    ensures first { FailsTo link.old.waiting link.new.waiting core.old core.new }
     ensures rest { link.new ≡ record link.old { waiting = link.new.waiting } }
     ensures ends { KeepsEnds clients.old clients.new }
 {
@@ -67,13 +67,13 @@ pub fn fail_all(link: &mut Link, core: &mut ServedCore, clients: &mut Clients)
     requires { link.old.conn ≡ None }
     ensures core { OnlyFails core.old core.new }
     ensures down { IsDown link.new }
-    ensures all { AllFail (link.old.calls.sent.items ++ link.old.waiting.items) core.old core.new }
+    ensures all { AllFail (link.old.calls.sent.items ++ link.old.waiting) core.old core.new }
     ensures closed { link.new.conn ≡ None }
     ensures draining { link.new.draining ≡ link.old.draining }
     ensures text { link.new.text ≡ link.old.text }
     ensures limits { link.new.limits ≡ link.old.limits }
     ensures lost { link.new.lost ≡ link.old.lost }
-    ensures first { (mid : ServedCore) × FailsTo link.old.calls.sent.items link.new.calls.sent.items core.old mid × FailsTo link.old.waiting.items link.new.waiting.items mid core.new }
+    ensures first { (mid : ServedCore) × FailsTo link.old.calls.sent.items link.new.calls.sent.items core.old mid × FailsTo link.old.waiting link.new.waiting mid core.new }
     ensures ends { KeepsEnds clients.old clients.new }
 {
     fail_sent(&mut link.calls, core, clients);
@@ -200,7 +200,6 @@ fn settle_in(
     ensures left { result.1 ≡ HeldStop.Left Left.Begun → HoldsNoAnswer calls.new.sent.items (drop result.0 received.now) core.new }
     ensures foreign { result.1 ≡ HeldStop.Left Left.NoAnswer → HoldsForeign calls.new.sent.items (drop result.0 received.now) core.new }
     ensures settled { SettlesSome calls.old.sent.items received.now core.old calls.new.sent.items (drop result.0 received.now) core.new }
-    ensures front { SettlesFront calls.old.sent.items received.now core.old calls.new.sent.items core.new }
     ensures ends { KeepsEnds clients.old clients.new }
 {
     let end = received.bytes().len();
@@ -241,8 +240,7 @@ fn take_copied(
     ensures core { GoesBy IsSettlement core.old core.new }
     ensures left { result ≡ Some Left.Begun → HoldsNoAnswer calls.new.sent.items conn.new.held.items core.new }
     ensures foreign { result ≡ Some Left.NoAnswer → HoldsForeign calls.new.sent.items conn.new.held.items core.new }
-    ensures settled { result ≢ Some Left.NoMemory → SettlesSome calls.old.sent.items conn.old.held.items core.old calls.new.sent.items conn.new.held.items core.new }
-    ensures front { SettlesFront calls.old.sent.items conn.old.held.items core.old calls.new.sent.items core.new }
+    ensures settled { SettlesSome calls.old.sent.items conn.old.held.items core.old calls.new.sent.items conn.new.held.items core.new }
     ensures ends { KeepsEnds clients.old clients.new }
     ensures rest { HoldsAnew conn.old conn.new }
 {
@@ -261,31 +259,47 @@ fn take_copied(
     }
 }
 
-// What these bytes have besides so many is held again. Whether memory was there for that.
-fn hold_rest(conn: &mut Conn, front: &Bytes, used: usize) -> bool
-    ensures held { result ≡ true → conn.new.held.items ≡ drop used front.now ++ conn.old.held.items }
+// What these bytes, which were cut off from what was held, have besides so many is held again, in the room that was made for it.
+fn hold_rest(conn: &mut Conn, front: &Bytes, used: usize)
+    requires { HasRoomAgain (length front.now + length conn.old.held.items) conn.old }
+    ensures held { conn.new.held.items ≡ drop used front.now ++ conn.old.held.items }
     ensures rest { HoldsAnew conn.old conn.new }
 {
-    let rest = rest_of(front.as_slice(), used);
-    conn.hold_again(rest, ROOM_AFTER).is_ok()
+    conn.hold_again(rest_of(front.as_slice(), used))
 }
 
-// What these bytes have besides so many, if they have more, is held again. Whether memory was there for that.
-fn hold_any(conn: &mut Conn, front: &Bytes, used: usize) -> bool
-    ensures held { result ≡ true → conn.new.held.items ≡ drop used front.now ++ conn.old.held.items }
+// What these bytes, which were cut off from what was held, have besides so many, if they have more, is held again, in the room that was made for it.
+fn hold_any(conn: &mut Conn, front: &Bytes, used: usize)
+    requires { HasRoomAgain (length front.now + length conn.old.held.items) conn.old }
+    ensures held { conn.new.held.items ≡ drop used front.now ++ conn.old.held.items }
     ensures rest { HoldsAnew conn.old conn.new }
 {
-    used >= front.len() || hold_rest(conn, front, used)
+    if used < front.len() {
+        hold_rest(conn, front, used)
+    }
 }
 
-// What is left after the answers that were settled from a part that was cut off, of which the rest is held again or not.
-fn left_after(stop: HeldStop, is_kept: bool) -> Left
+// The first so many bytes of what is held, which are cut off from it, where there is room for holding them again. `None` where memory was refused for that.
+fn cut_front(conn: &mut Conn, len: usize) -> Option<Bytes>
+    requires { len ≤ length conn.old.held.items }
+    ensures front { IfSome result (λ front. conn.old.held.items ≡ front ++ conn.new.held.items) }
+    ensures left { IfSome result (λ _. conn.new.held.items ≡ drop len conn.old.held.items) }
+    ensures room { IfSome result (λ front. HasRoomAgain (length front + length conn.new.held.items) conn.new) }
+    ensures none { result ≡ None → conn.new.held.items ≡ conn.old.held.items }
+    ensures rest { HoldsAnew conn.old conn.new }
+{
+    let room = conn.held.len().saturating_add(ROOM_AFTER);
+    conn.make_again(room).ok()?;
+    conn.held.freeze_to(len).ok()
+}
+
+// What is left after the answers that were settled from a part that was cut off. They stop at no data.
+fn left_after(stop: HeldStop) -> Left
     ensures begun { result ≡ Left.Begun → stop ≡ HeldStop.Left Left.Begun }
     ensures foreign { result ≡ Left.NoAnswer → stop ≡ HeldStop.Left Left.NoAnswer }
-    ensures kept { result ≢ Left.NoMemory → is_kept ≡ true }
 {
     match stop {
-        HeldStop::Left(left) if is_kept => left,
+        HeldStop::Left(left) => left,
         _ => Left::NoMemory,
     }
 }
@@ -302,12 +316,12 @@ fn take_long(
     ensures core { GoesBy IsSettlement core.old core.new }
     ensures left { result ≡ Some Left.Begun → HoldsNoAnswer calls.new.sent.items conn.new.held.items core.new }
     ensures foreign { result ≡ Some Left.NoAnswer → HoldsForeign calls.new.sent.items conn.new.held.items core.new }
-    ensures settled { result ≢ Some Left.NoMemory → SettlesSome calls.old.sent.items conn.old.held.items core.old calls.new.sent.items conn.new.held.items core.new }
-    ensures front { SettlesFront calls.old.sent.items conn.old.held.items core.old calls.new.sent.items core.new }
+    ensures settled { SettlesSome calls.old.sent.items conn.old.held.items core.old calls.new.sent.items conn.new.held.items core.new }
     ensures ends { KeepsEnds clients.old clients.new }
     ensures rest { HoldsAnew conn.old conn.new }
 {
-    let Ok(front) = conn.held.freeze_to(conn.held.len()) else {
+    let held = conn.held.len();
+    let Some(front) = cut_front(conn, held) else {
         return take_copied(calls, core, clients, is_freed, conn);
     };
     let (used, stop) = settle_in(
@@ -318,8 +332,8 @@ fn take_long(
         &Received::shared(&front),
         Stops::Never,
     );
-    let is_kept = hold_rest(conn, &front, used);
-    Some(left_after(stop, is_kept))
+    hold_rest(conn, &front, used);
+    Some(left_after(stop))
 }
 
 // The answer in front, which takes so many bytes if it is spelled as usual, is settled, and its data share the buffer that they came in.
@@ -335,13 +349,12 @@ fn take_large(
     ensures core { GoesBy IsSettlement core.old core.new }
     ensures left { result ≡ Some Left.Begun → HoldsNoAnswer calls.new.sent.items conn.new.held.items core.new }
     ensures foreign { result ≡ Some Left.NoAnswer → HoldsForeign calls.new.sent.items conn.new.held.items core.new }
-    ensures settled { result ≢ Some Left.NoMemory → SettlesSome calls.old.sent.items conn.old.held.items core.old calls.new.sent.items conn.new.held.items core.new }
-    ensures front { SettlesFront calls.old.sent.items conn.old.held.items core.old calls.new.sent.items core.new }
+    ensures settled { SettlesSome calls.old.sent.items conn.old.held.items core.old calls.new.sent.items conn.new.held.items core.new }
     ensures ends { KeepsEnds clients.old clients.new }
     ensures rest { HoldsAnew conn.old conn.new }
 {
     let len = len.min(conn.held.len());
-    let Ok(front) = conn.held.freeze_to(len) else {
+    let Some(front) = cut_front(conn, len) else {
         return take_copied(calls, core, clients, is_freed, conn);
     };
     let (used, _) = settle_in(
@@ -352,9 +365,7 @@ fn take_large(
         &Received::shared(&front),
         Stops::Never,
     );
-    if !hold_any(conn, &front, used) {
-        return Some(Left::NoMemory);
-    }
+    hold_any(conn, &front, used);
     if used == 0 {
         return take_copied(calls, core, clients, is_freed, conn);
     }
@@ -402,7 +413,7 @@ fn left_of(conn: &Conn) -> Left
 }
 
 /// All whole answers that the link's connection holds are settled, one after another, and are held no more: nothing is left, or the begin of the next one,
-/// or what begins none. Where what is left can't be read or kept, nothing is said of it, and each answer that was settled was in front all the same. Large data, of [`SHARED_FROM`] bytes or more, share the buffer that they came in. So do long
+/// or what begins none, or what couldn't be read as memory was refused: that is held as it was, to be read again. Large data, of [`SHARED_FROM`] bytes or more, share the buffer that they came in. So do long
 /// ones, of [`CUT_FROM`] bytes or more, where 16,384 bytes or more are held and none that shared another buffer before is in use. All others are copied.
 pub fn settle_held(
     calls: &mut LinkCalls,
@@ -414,8 +425,7 @@ pub fn settle_held(
     ensures core { GoesBy IsSettlement core.old core.new }
     ensures left { result.left ≡ Left.Begun → HoldsNoAnswer calls.new.sent.items conn.new.held.items core.new }
     ensures foreign { result.left ≡ Left.NoAnswer → HoldsForeign calls.new.sent.items conn.new.held.items core.new }
-    ensures settled { result.left ≢ Left.NoMemory → SettlesSome calls.old.sent.items conn.old.held.items core.old calls.new.sent.items conn.new.held.items core.new }
-    ensures front { SettlesFront calls.old.sent.items conn.old.held.items core.old calls.new.sent.items core.new }
+    ensures settled { SettlesSome calls.old.sent.items conn.old.held.items core.old calls.new.sent.items conn.new.held.items core.new }
     ensures none { result.has_settled ≡ false → length calls.old.sent.items ≤ length calls.new.sent.items }
     ensures ends { KeepsEnds clients.old clients.new }
     ensures rest { HoldsAnew conn.old conn.new }

@@ -1,10 +1,6 @@
 //! Why a call isn't sent to its server, and fails without that.
 
-ghost use Rattle.serve_links.specs.Unsent.{NotesRefusal, NotesCause};
-
 use crate::calls::SentCall;
-use crate::news::Cause;
-use core_accepted::{ServedCore, Unshown};
 
 /// Why a call isn't sent to its server.
 ///
@@ -25,8 +21,8 @@ pub enum Refusal {
     WaitedLong,
     /// So many connections in a row were given up as are allowed, and a call that is out there tries the server.
     LeftAlone,
-    /// Memory was refused for the call.
-    NoMemory,
+    /// As many calls wait for the server as there is always room for, and memory was refused for one more.
+    ManyWait,
 }
 
 /// A call that isn't sent, and why.
@@ -36,20 +32,11 @@ pub struct NotSent {
     pub why: Refusal,
 }
 
-/// A call isn't sent for this reason: where that is refused memory, which nothing shows, it is counted.
-pub fn note_refusal(core: &mut ServedCore, why: Refusal)
-    ensures { NotesRefusal why core.old core.new }
-{
-    if let Refusal::NoMemory = why {
-        core.note_unshown(Unshown::NoMemory)
-    }
-}
-
-/// A link is given up for this cause: that is counted, where nothing shows it.
-pub fn note_cause(core: &mut ServedCore, cause: Cause)
-    ensures { NotesCause cause core.old core.new }
-{
-    if let Cause::NoRoom = cause {
-        core.note_unshown(Unshown::NoRoom)
-    }
+/// What became of a call that is to be sent.
+#[derive(Clone, Copy, PartialEq, Eq)]
+pub enum Placed {
+    /// It is written to its server's link.
+    Sent,
+    /// Memory was refused for that: it waits, before all others.
+    Waits,
 }

@@ -6,9 +6,9 @@ use Rattle.serve_links.specs.Links.{calls_out}
 
 pub out_at :
     (links : List Link) (i : ℕ) (link : Link) → i < length links → link ≡ get_or links i link
-    → calls_out (drop i links) ≡ length link.calls.sent.items + length link.waiting.items + calls_out (drop (i + 1) links)
+    → calls_out (drop i links) ≡ length link.calls.sent.items + length link.waiting + calls_out (drop (i + 1) links)
 out_at links i link h e =
-    rw add-one (ap calls_out (drop-cons links i link h) ∙ ap (λ (x : Link). length x.calls.sent.items + length x.waiting.items + calls_out (drop (suc i) links)) (sym e))
+    rw add-one (ap calls_out (drop-cons links i link h) ∙ ap (λ (x : Link). length x.calls.sent.items + length x.waiting + calls_out (drop (suc i) links)) (sym e))
 
 pub out_end : (links : List Link) (i : ℕ) → length links ≤ i → calls_out (drop i links) ≡ 0
 out_end [] zero h = refl

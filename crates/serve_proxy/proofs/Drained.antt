@@ -37,7 +37,7 @@ quiet_as h k same d = subst (IsUntouched d h) (sym same) (untouched d h)
 line_drain : (x y : Link) → y ≡ record x { draining = y.draining } → drain_of y ≡ drain_of x → line_of y ≡ line_of x
 line_drain x y is same =
     ap line_of is
-    ∙ ap (λ (o : Option ℕ). let s : LineState = (server_and_opened x, option_map {U = ℕ × List ℕ × List ℕ} (λ (z : Conn). (z.number, z.held.items, bytes_of z.unsent)) x.conn, said_asks x.calls.sent.items, x.waiting.items, x.awaits_dialect, x.dialect, said_late x.late.items, o) in s) same
+    ∙ ap (λ (o : Option ℕ). let s : LineState = (server_and_opened x, option_map {U = ℕ × List ℕ × List ℕ} (λ (z : Conn). (z.number, z.held.items, bytes_of z.unsent)) x.conn, said_asks x.calls.sent.items, x.waiting, x.awaits_dialect, x.dialect, said_late x.late.items, o) in s) same
 
 -- why it is to be closed, and what the wire shows of that
 read_over : (cause : Cause) (c : ℕ) (h k : List WireEvent) → ReadsAway (Some cause) c h k → (standing_after (Some cause) ≡ Apart) × ReadsOn c [] [] h k × ((limit : ℕ) (t : Talk) → ShowsWhy (Some cause) limit t c k)

@@ -1,5 +1,5 @@
 -- Links that are given up for what their connections show.
-use Rattle.std.proofs.Common.{◌≡◌, ◌≢◌, ℕ, ◌<◌, Bool, true, false, List, [], ◌∷◌, ◌++◌, length, get_or, Option, Some, None, inl, inr, refl, sym, ◌∙◌, subst, ap}
+use Rattle.std.proofs.Common.{◌≡◌, ◌≢◌, ℕ, ◌<◌, ◌≤◌, Bool, true, false, List, [], ◌∷◌, ◌++◌, length, get_or, Option, Some, None, inl, inr, refl, sym, ◌∙◌, subst, ap}
 use Rattle.std.proofs.Math.ListN.{set}
 use Rattle.std.specs.Prelude.{IfSome, slice_get}
 use Rattle.serve_wire.specs.Events.{WireEvent, time}
@@ -18,19 +18,16 @@ use Rattle.serve_links.specs.declared.news.Cause.TheVariants as causes
 use Rattle.serve_links.specs.Calls.{stores_first}
 use Rattle.serve_links.specs.Lateness.{AwaitsLate, IsConnectLate, IsConnectLateAt}
 use Rattle.serve_links.specs.Links.{vain_cause}
-use Rattle.core_accepted.specs.declared.tally.Unshown.TheVariants as unshown
-use Rattle.serve_links.specs.Unsent.{NotesCause}
-use Rattle.serve_links.proofs.Called.{walks_tell_calls}
-use Rattle.serve_links.specs.CoreSteps.{Unseen, Notes, Step, Opened, NotOpened, Fed, Polled, Stopped, Settled, Gave, Closed, LeftLine, Broke, Ticked, Loaded, Linked, Asked, Greeted, Spelled, Late, CameLate, Lost, Noted, Walks, StepsAreOf, IsOfTurn, IsGivingUp, IsSending, OnlyFails}
-use Rattle.serve_links.specs.Talks.{SaidAsk, IsStoreFirst, IsNotedFor, talk_in}
-use Rattle.serve_links.specs.Story.{fed_in, gave_in, address_and_opened, said_asks, said_late, line_of, IsForeign, LineIsForeign, LineAgrees, LineLost, LineFails, LineLeaves, LineGoesFrom, AnEnd, Agrees, AgreesBut, AllGoFrom, ShowsWhy}
-use Rattle.serve_links.proofs.LinkGoes.{as_failing, noted_fails, line_between, line_keeps}
+use Rattle.serve_links.specs.CoreSteps.{Step, Opened, NotOpened, Fed, Polled, Stopped, Settled, Gave, Closed, LeftLine, Broke, Ticked, Loaded, Linked, Asked, Greeted, Spelled, Late, CameLate, Lost, Noted, Walks, StepsAreOf, IsOfTurn, IsGivingUp, IsSending, OnlyFails}
+use Rattle.serve_links.specs.Talks.{SaidAsk, IsStoreFirst, talk_in}
+use Rattle.serve_links.specs.Story.{address_and_opened, said_asks, said_late, line_of, IsForeign, LineIsForeign, LineAgrees, LineFails, HoldsMost, most_held, LineGoesFrom, AnEnd, Agrees, AgreesBut, AllGoFrom, ShowsWhy}
+use Rattle.serve_links.proofs.LinkGoes.{as_failing, line_between, line_keeps}
 use Rattle.serve_links.proofs.ByLimits.{servers_same}
 use Rattle.serve_links.proofs.Foreign.{fails_foreign, none_awaited}
-use Rattle.serve_links.proofs.Story.{all_told, line_stays, go_between, all_but, but_all}
+use Rattle.serve_links.proofs.Story.{go_between, all_but, but_all}
 use Rattle.serve_proxy.specs.declared.sockets.Sockets.{Sockets}
-use Rattle.serve_proxy.specs.Ends.{end_of, over_by, over_of, idle_cause, broken_unless, AwaitsNothing, AwaitsLateAt, LineUnless, LineStandsUnless, EndsGoFrom, AgreesUnless, AllGoOn, AllGoUnless}
-use Rattle.serve_proxy.proofs.Going.{and_then, stays, line_lends, agree_told, had_quiet}
+use Rattle.serve_proxy.specs.Ends.{end_of, over_by, over_of, idle_cause, broken_unless, AwaitsNothing, AwaitsLateAt, HoldsMostAt, LineUnless, LineStandsUnless, EndsGoFrom, AgreesUnless, AllGoOn, AllGoUnless}
+use Rattle.serve_proxy.proofs.Going.{and_then, stays, line_lends}
 use Rattle.serve_proxy.proofs.Staying.{stay_clients}
 use Rattle.serve_proxy.proofs.Linking.{but_clients}
 
@@ -58,32 +55,36 @@ pub vain_goes :
 vain_goes {P} {Is} {at} {a} {b} {h} {h'} {x} {y} has_failed cause is some g =
     subst (λ o. LineGoesFrom P (LineUnless o) Is at a h x b h' y) (sym is) (line_between (λ past was. was) (λ past was. vain_agrees has_failed at past h' y some was) g)
 
+-- nothing fails
+pub goes_as :
+    {P : ℕ → List Step → List WireEvent → Link → Type 0} {Is : Step → Type 0} {at : ℕ} {a b : ServedCore} {h h' : List WireEvent} {x y : Link} {cause : Option Cause} → cause ≡ None
+    → LineGoesFrom P LineAgrees Is at a h x b h' y → LineGoesFrom P (LineUnless cause) Is at a h x b h' y
+goes_as {P} {Is} {at} {a} {b} {h} {h'} {x} {y} none g = subst (λ o. LineGoesFrom P (LineUnless o) Is at a h x b h' y) (sym none) g
+
 pub stands_in_vain :
     (at : ℕ) (h : List WireEvent) (x y : Link) (has_failed : Bool) (cause : Option Cause) → cause ≡ vain_cause has_failed → (has_failed ≡ true → y.calls.sent.items ≢ []) → line_of y ≡ line_of x → LineStandsUnless cause at h h x y
 stands_in_vain at h x y has_failed cause is some same = λ core. vain_goes has_failed cause is some (line_keeps (λ d. untouched d h) same)
 
--- there was no room for what came
-pub no_room_goes :
-    {P : ℕ → List Step → List WireEvent → Link → Type 0} {Is : Step → Type 0} {at : ℕ} {a b : ServedCore} {h h' : List WireEvent} {x y : Link} → LineGoesFrom P LineLost Is at a h x b h' y
-    → LineGoesFrom P (LineFails (Some causes.NoRoom)) Is at a h x b h' y
-no_room_goes g = line_between (λ past was. was) (λ past was. record { lost = was; shows = λ conn there. tt }) g
+-- too much is held of it
+most_shown : (at : ℕ) (past : List Step) (h : List WireEvent) (y : Link) → HoldsMost y → LineAgrees at past h y → LineFails (Some causes.NoRoom) at past h y
+most_shown at past h y most a = as_failing (Some causes.NoRoom) at past h y (λ conn is. (conn.held.items, (a.conn conn is).told_is, subst (λ (o : Option Conn). IfSome o (λ c. most_held ≤ length c.held.items)) is most)) a
 
 -- what a read of a link comes to on which nothing is out
 idle_agrees :
-    (what : Got) (at : ℕ) (past : List Step) (h : List WireEvent) (y : Link) → (what ≡ got.Bytes → LineIsForeign y) → LineUnless (over_by what) at past h y → LineUnless (idle_cause what) at past h y
-idle_agrees got.Bytes at past h y came a = fails_foreign at past h y (came refl) a
-idle_agrees got.Nothing at past h y came a = a
-idle_agrees got.Full at past h y came a = as_failing (Some causes.NoRoom) at past h y (λ conn there. tt) a
-idle_agrees got.Ended at past h y came a = a
-idle_agrees got.Failed at past h y came a = a
+    (what : Got) (at : ℕ) (past : List Step) (h : List WireEvent) (y : Link) → (what ≡ got.Bytes → LineIsForeign y) → (what ≡ got.Full → HoldsMost y) → LineUnless (over_by what) at past h y → LineUnless (idle_cause what) at past h y
+idle_agrees got.Bytes at past h y came full a = fails_foreign at past h y (came refl) a
+idle_agrees got.Nothing at past h y came full a = a
+idle_agrees got.Full at past h y came full a = most_shown at past h y (full refl) a
+idle_agrees got.Ended at past h y came full a = a
+idle_agrees got.Failed at past h y came full a = a
 
 pub idle_stands :
-    (at : ℕ) (h h' : List WireEvent) (x y : Link) (what : Got) (cause : Option Cause) → cause ≡ idle_cause what → (what ≡ got.Bytes → LineIsForeign y) → LineStandsUnless (over_by what) at h h' x y → LineStandsUnless cause at h h' x y
-idle_stands at h h' x y what cause is came s = λ core.
-    subst (λ o. LineGoesFrom LineAgrees (LineUnless o) IsSending at core h x core h' y) (sym is) (line_between (λ past was. was) (λ past was. idle_agrees what at past h' y came was) (s core))
+    (at : ℕ) (h h' : List WireEvent) (x y : Link) (what : Got) (cause : Option Cause) → cause ≡ idle_cause what → (what ≡ got.Bytes → LineIsForeign y) → (what ≡ got.Full → HoldsMost y) → LineStandsUnless (over_by what) at h h' x y → LineStandsUnless cause at h h' x y
+idle_stands at h h' x y what cause is came full s = λ core.
+    subst (λ o. LineGoesFrom LineAgrees (LineUnless o) IsSending at core h x core h' y) (sym is) (line_between (λ past was. was) (λ past was. idle_agrees what at past h' y came full was) (s core))
 
 -- what came is held of a link over whose connection nothing is awaited
-pub idle_came : (x y : Link) → AwaitsNothing x → y ≡ record x { conn = y.conn } → IfSome y.conn (λ conn. conn.held.items ≢ []) → LineIsForeign y
+pub idle_came : (x y : Link) → AwaitsNothing x → y ≡ record x { conn = y.conn; is_starved = y.is_starved } → IfSome y.conn (λ conn. conn.held.items ≢ []) → LineIsForeign y
 idle_came x y nothing rest some = by y.conn refl some
   where
     by : (o : Option Conn) → y.conn ≡ o → IfSome o (λ conn. conn.held.items ≢ []) → LineIsForeign y
@@ -131,8 +132,8 @@ unless_clients (Some cause) at cs cs' g keeps = but_clients at cs cs' g keeps
 -- one is given up
 pub line_given_up :
     {Is : Step → Type 0} {h h' : List WireEvent} {cs : Clients} {a b : ServedCore} (why : Option Cause) (links : List Link) (at : ℕ) (x y : Link) → at < length links → x ≡ get_or links at x
-    → LineGoesFrom (LineLeaves why) LineAgrees Is at a h x b h' y
-    → AllGoFrom (AgreesBut (LineLeaves why) at) Agrees Is (record { core = a; history = h; clients = cs; links = links }) (record { core = b; history = h'; clients = cs; links = set links at y })
+    → LineGoesFrom (LineFails why) LineAgrees Is at a h x b h' y
+    → AllGoFrom (AgreesBut (LineFails why) at) Agrees Is (record { core = a; history = h; clients = cs; links = links }) (record { core = b; history = h'; clients = cs; links = set links at y })
 line_given_up {h = h} {h' = h'} {cs = cs} {a = a} {b = b} why links at x y within was g =
     go_between (λ past all. all) (λ past all. but_all at past (record { core = b; history = h'; clients = cs; links = set links at y }) all) (line_lends links at x y within was g)
 
@@ -187,65 +188,15 @@ unanswered {a = a} at awaits g = go_between (λ past was. failing_at (Some cause
         let late : AwaitsLate link = subst (λ (o : Option Link). IfSome o AwaitsLate) there awaits in
         as_failing (Some causes.AnswerLate) at past a.history link (λ conn is. late_shows at past a.history link conn agrees is late) agrees
 
--- or for which there was no room for what came, or where that is wanted
-pub no_room_at : (at : ℕ) (past : List Step) (x : AnEnd) → Agrees past x → AgreesBut (LineFails (Some causes.NoRoom)) at past x
-no_room_at at past x was = failing_at (Some causes.NoRoom) at past x (λ link there. as_failing (Some causes.NoRoom) at past x.history link (λ conn is. tt) (was.links at link there)) was
+-- or of which too much is held
+pub no_room_at : (at : ℕ) (past : List Step) (x : AnEnd) → HoldsMostAt at x.links → Agrees past x → AgreesBut (LineFails (Some causes.NoRoom)) at past x
+no_room_at at past x most was =
+    failing_at (Some causes.NoRoom) at past x (λ link there. most_shown at past x.history link (subst (λ (o : Option Link). IfSome o HoldsMost) there most) (was.links at link there)) was
 
--- it is given up then, once what nothing shows was noted
-leaves : (why : Option Cause) (at : ℕ) (past : List Step) (x : AnEnd) → IsNotedFor why at past → AgreesBut (LineFails why) at past x → AgreesBut (LineLeaves why) at past x
-leaves why at past x noted a =
-    record { orderly = a.orderly; calls = a.calls; clients = a.clients; told = a.told; links = λ j link other there. a.links j link other there; this = λ link there. (a.this link there, noted); gone = a.gone; shown = a.shown; shut = a.shut; unlinked = a.unlinked; clock = a.clock }
-
-pub wanted : {Q : List Step → AnEnd → Type 0} {Is : Step → Type 0} {a b : AnEnd} (at : ℕ) → AllGoFrom (AgreesBut (LineLeaves None) at) Q Is a b → AllGoFrom Agrees Q Is a b
+-- or where that is wanted
+pub wanted : {Q : List Step → AnEnd → Type 0} {Is : Step → Type 0} {a b : AnEnd} (at : ℕ) → AllGoFrom (AgreesBut (LineFails None) at) Q Is a b → AllGoFrom Agrees Q Is a b
 wanted {a = a} at g =
-    go_between (λ past was. leaves None at past a tt (failing_at None at past a (λ link there. as_failing None at past a.history link (λ conn is. tt) (was.links at link there)) was)) (λ past was. was) g
-
-module _ (h : List WireEvent) (cs : Clients) (ls : List Link) (at : ℕ) where
-  abbrev IsNoted : Cause → ServedCore → ServedCore → Type 0
-  IsNoted cause a b =
-      AllGoFrom (AgreesBut (LineFails (Some cause)) at) (AgreesBut (LineLeaves (Some cause)) at) IsSending (record { core = a; history = h; clients = cs; links = ls }) (record { core = b; history = h; clients = cs; links = ls })
-
-  none_noted : (cause : Cause) (a b : ServedCore) → b ≡ a → ((past : List Step) → IsNotedFor (Some cause) at past) → IsNoted cause a b
-  none_noted cause a b same noted = subst (IsNoted cause a) (sym same) (record {
-    steps = [];
-    kinds = tt;
-    walks = refl;
-    agree = λ past was. leaves (Some cause) at past (record { core = a; history = h; clients = cs; links = ls }) (noted past) was;
-    servers = servers_same ls ls refl;
-  })
-
-  no_room_noted : (a b : ServedCore) → Notes (Unseen unshown.NoRoom) a b → IsNoted causes.NoRoom a b
-  no_room_noted a b does =
-      let step : Step = Noted at (Unseen unshown.NoRoom) in
-      record {
-        steps = step ∷ [];
-        kinds = (tt, tt);
-        walks = (a, refl, does);
-        agree = λ past was. record {
-          orderly = (tt, was.orderly);
-          calls = (walks_tell_calls.goes_on (step ∷ []) past a b was.calls (a, refl, does)).0;
-          clients = agree_told h (fed_in past) (gave_in past) (fed_in (step ∷ past)) (gave_in (step ∷ past)) cs (λ j. (refl, refl)) was.clients;
-          told = all_told past (step ∷ []) cs (λ j. (refl, refl, refl, refl)) was.told;
-          links = λ j link other there. line_stays h h j (step ∷ []) past link (λ c of_c. untouched c h) refl (λ n ask is. (refl, refl, refl)) (was.links j link other there);
-          this = λ link there. (noted_fails (Some causes.NoRoom) at (Unseen unshown.NoRoom) past h link (was.this link there), (past, refl));
-          gone = λ conn id of_id. had_quiet past (step ∷ []) h h cs cs id conn (untouched conn h) refl of_id was.gone;
-          shown = (tt, was.shown);
-          shut = was.shut;
-          unlinked = was.unlinked;
-          clock = was.clock;
-        };
-        servers = record { same = refl; late = (tt, tt) };
-      }
-
-  pub cause_noted : (cause : Cause) (a b : ServedCore) → NotesCause cause a b → IsNoted cause a b
-  cause_noted causes.Unreachable a b notes = none_noted causes.Unreachable a b notes (λ past. tt)
-  cause_noted causes.ConnectLate a b notes = none_noted causes.ConnectLate a b notes (λ past. tt)
-  cause_noted causes.AnswerLate a b notes = none_noted causes.AnswerLate a b notes (λ past. tt)
-  cause_noted causes.Closed a b notes = none_noted causes.Closed a b notes (λ past. tt)
-  cause_noted causes.Broken a b notes = none_noted causes.Broken a b notes (λ past. tt)
-  cause_noted causes.ForeignAnswer a b notes = none_noted causes.ForeignAnswer a b notes (λ past. tt)
-  cause_noted causes.NoRoom a b notes = no_room_noted a b notes
-  cause_noted causes.VainReads a b notes = none_noted causes.VainReads a b notes (λ past. tt)
+    go_between (λ past was. failing_at None at past a (λ link there. as_failing None at past a.history link (λ conn is. tt) (was.links at link there)) was) (λ past was. was) g
 
 -- of the core nothing is asked but that calls fail
 pub fails_of : (why : Option Cause) (steps : List Step) (a b : ServedCore) → StepsAreOf (IsGivingUp why) steps → Walks steps a b → OnlyFails a b

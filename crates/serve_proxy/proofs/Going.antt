@@ -34,7 +34,7 @@ use Rattle.serve_links.specs.declared.calls.calls.SentCall.{SentCall}
 use Rattle.serve_links.specs.declared.settings.LinkLimits.{LinkLimits}
 use Rattle.serve_links.specs.declared.link.Link.{Link}
 use Rattle.serve_links.specs.declared.news.Cause.{Cause}
-use Rattle.serve_links.specs.CoreSteps.{Obstacle, Notes, Step, Opened, NotOpened, Fed, Polled, Stopped, Settled, Gave, Closed, LeftLine, Broke, Ticked, Loaded, Linked, Asked, Greeted, Spelled, Late, CameLate, Lost, Noted, Does, Walks, StepsAreOf, GoesBy, IsOfTurn, IsFailure, IsSending, IsGivingUp}
+use Rattle.serve_links.specs.CoreSteps.{Obstacle, Step, Opened, NotOpened, Fed, Polled, Stopped, Settled, Gave, Closed, LeftLine, Broke, Ticked, Loaded, Linked, Asked, Greeted, Spelled, Late, CameLate, Lost, Noted, Does, Walks, StepsAreOf, GoesBy, IsOfTurn, IsFailure, IsSending, IsGivingUp}
 use Rattle.serve_links.specs.Called.{clock_in, given_in, TellsCallsOut, GiveOnce}
 use Rattle.serve_links.specs.Talks.{IsNotAmong, AreDue, IsTold, MaySettle, IsOrderly, IsOfClients}
 use Rattle.serve_links.proofs.Called.{given_besides, walks_tell_calls}
@@ -109,7 +109,7 @@ hand_stays number at since past ls ls' same was = record {
   apart = λ link there. by link (slice_get ls at) refl (get_line ls at ∙ ap (λ l. slice_get l at) (sym same) ∙ sym (get_line ls' at) ∙ ap (option_map line_of) there);
 }
   where
-    by : (link : Link) (o : Option Link) → slice_get ls at ≡ o → option_map line_of o ≡ Some (line_of link) → IsNotAmong number (said_asks link.waiting.items)
+    by : (link : Link) (o : Option Link) → slice_get ls at ≡ o → option_map line_of o ≡ Some (line_of link) → IsNotAmong number (said_asks link.waiting)
     by link None e l = absurd (none_some l)
     by link (Some x) e l = subst (λ (line : LineState). IsNotAmong number (said_asks line.3)) (same_some l) (was.apart x e)
 
@@ -544,12 +544,12 @@ refused_go {h} {cs} {ls} number at since a b is =
     lines : (past : List Step) → LinesAgree past h ls → IsInHand number at since past ls → LinesAgree (Settled number Failed ∷ past) h ls
     lines past was hand i link there =
         let agrees = was i link there in
-        let left = hand_gone past (Settled number Failed ∷ past) at number hand.ask (number, Classic, hand.ask, 0) refl hand.due (keeps_settled past number Failed Classic hand.ask 0) i link.calls.sent.items link.waiting.items (λ e. hand.apart link (ap (slice_get ls) e ∙ there)) agrees.called agrees.due in
+        let left = hand_gone past (Settled number Failed ∷ past) at number hand.ask (number, Classic, hand.ask, 0) refl hand.due (keeps_settled past number Failed Classic hand.ask 0) i link.calls.sent.items link.waiting (λ e. hand.apart link (ap (slice_get ls) e ∙ there)) agrees.called agrees.due in
         line_stays_by h h i (Settled number Failed ∷ []) past link (λ c of_c. untouched c h) refl left.1 left.0 agrees
 
 -- an obstacle is noted
 pub noted_agrees :
-    {h : List WireEvent} {cs : Clients} {ls : List Link} (at : ℕ) (obstacle : Obstacle) (a b : ServedCore) (past : List Step) → Notes obstacle a b → IsTold obstacle at past → ObstacleIsShown obstacle at past h
+    {h : List WireEvent} {cs : Clients} {ls : List Link} (at : ℕ) (obstacle : Obstacle) (a b : ServedCore) (past : List Step) → b ≡ a → IsTold obstacle at past → ObstacleIsShown obstacle at past h
     → Agrees past (record { core = a; history = h; clients = cs; links = ls }) → Agrees (Noted at obstacle ∷ past) (record { core = b; history = h; clients = cs; links = ls })
 noted_agrees {h} {cs} {ls} at obstacle a b past does told shown was =
     let step : Step = Noted at obstacle in
@@ -582,7 +582,7 @@ called_due {Q} {Is} {a} {b} number at server since ask same clock g = subst (λ 
         ask = ask;
         due = one_due past number at ask was.1 was.0.orderly was.2.orderly;
         given = given past was;
-        apart = λ link there. one_apart past number at ask was.1 (said_asks link.waiting.items) was.0.orderly was.2.orderly (was.2.links at link there).due;
+        apart = λ link there. one_apart past number at ask was.1 (said_asks link.waiting) was.0.orderly was.2.orderly (was.2.links at link there).due;
       },
     )
 
@@ -713,7 +713,7 @@ line_gave {h = h} {h' = h'} {cs = cs} {a = a} {b = b} links at x y call within w
       but_all at past (record { core = b; history = h'; clients = cs; links = set links at y })
           (record { orderly = was.orderly; calls = was.calls; clients = was.clients; told = was.told; links = was.links; this = λ link there. (was.this link there).0; gone = was.gone; shown = was.shown; shut = was.shut; unlinked = was.unlinked; clock = was.clock }),
       (was.this y (set_here links at y within)).1,
-      λ link there. subst (λ (z : Link). AreDue past at (said_asks (call ∷ z.waiting.items))) (same_some (sym (set_here links at y within) ∙ there)) (was.this y (set_here links at y within)).2,
+      λ link there. subst (λ (z : Link). AreDue past at (said_asks (call ∷ z.waiting))) (same_some (sym (set_here links at y within) ∙ there)) (was.this y (set_here links at y within)).2,
       ((was.this y (set_here links at y within)).2.0, tt, tt, (was.this y (set_here links at y within)).2.3),
     )
 

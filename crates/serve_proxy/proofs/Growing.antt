@@ -50,8 +50,8 @@ adds_none old new same = ([], ap link_lines same ∙ sym (append-nil (link_lines
 -- the line of a link that is down
 down_of : (link : Link) → IsDown link → link.draining ≡ None → link.late.items ≡ [] → link.awaits_dialect ≡ None → link.dialect ≡ Classic → link.opened ≡ 0 → link.lost ≡ 0 → line_of link ≡ down_line (address_and_limits link)
 down_of link down undrained alone off classic unopened kept =
-    ap (λ (o : Option Conn). let s : LineState = (server_and_opened link, option_map (λ (x : Conn). (x.number, x.held.items, bytes_of x.unsent)) o, said_asks link.calls.sent.items, link.waiting.items, link.awaits_dialect, link.dialect, said_late link.late.items, drain_of link) in s) down.closed
-    ∙ ap (λ (l : List SentCall). let s : LineState = (server_and_opened link, None, said_asks l, link.waiting.items, link.awaits_dialect, link.dialect, said_late link.late.items, drain_of link) in s) down.sent
+    ap (λ (o : Option Conn). let s : LineState = (server_and_opened link, option_map (λ (x : Conn). (x.number, x.held.items, bytes_of x.unsent)) o, said_asks link.calls.sent.items, link.waiting, link.awaits_dialect, link.dialect, said_late link.late.items, drain_of link) in s) down.closed
+    ∙ ap (λ (l : List SentCall). let s : LineState = (server_and_opened link, None, said_asks l, link.waiting, link.awaits_dialect, link.dialect, said_late link.late.items, drain_of link) in s) down.sent
     ∙ ap (λ (l : List SentCall). let s : LineState = (server_and_opened link, None, [], l, link.awaits_dialect, link.dialect, said_late link.late.items, drain_of link) in s) down.waiting
     ∙ ap (λ (b : Option Greeting). let s : LineState = (server_and_opened link, None, [], [], b, link.dialect, said_late link.late.items, drain_of link) in s) off
     ∙ ap (λ (d : Dialect). let s : LineState = (server_and_opened link, None, [], [], None, d, said_late link.late.items, drain_of link) in s) classic ∙ ap (λ (l : List LateCall). let s : LineState = (server_and_opened link, None, [], [], None, Classic, said_late l, drain_of link) in s) alone

@@ -32,15 +32,15 @@ use Rattle.serve_links.specs.declared.link.Link.{Link}
 use Rattle.serve_links.specs.CoreSteps.{Step, Polled, Does, IsOfTurn}
 use Rattle.serve_links.specs.Called.{given_in}
 use Rattle.serve_links.specs.Dialects.{asked_in, awaits_flush}
-use Rattle.serve_links.specs.Settled.{SettlesSome, SettlesFront}
+use Rattle.serve_links.specs.Settled.{SettlesSome}
 use Rattle.serve_links.specs.Lateness.{HasLate, HasLateAt, LetsStoresWait, AllLetStoresWait}
 use Rattle.serve_links.specs.Links.{CallIsTaken}
 use Rattle.serve_links.specs.Lines.{IsNewEnd, OpensLink, greeting_of}
 use Rattle.serve_links.specs.Shut.{drain_of}
 use Rattle.serve_links.specs.Talks.{SaidAsk, talk_in, IsCalledIn}
-use Rattle.serve_links.specs.Story.{server_and_opened, LineState, line_of, said_asks, said_late, MayGo, LineAgrees, LineLost, LineGoesFrom, LineGoes, AnEnd, Agrees, AgreesBut, AgreesCalled, AgreesSent, AllGoFrom, fed_in, gave_in}
+use Rattle.serve_links.specs.Story.{server_and_opened, LineState, line_of, said_asks, said_late, MayGo, LineGoes, AnEnd, Agrees, AgreesBut, AgreesCalled, AgreesSent, AllGoFrom, fed_in, gave_in}
 use Rattle.serve_links.proofs.LateGoes.{waits_still}
-use Rattle.serve_links.proofs.LinkGoes.{StillLost, as_lost, line_between, line_settles, line_loses, line_asks, line_waits, line_takes}
+use Rattle.serve_links.proofs.LinkGoes.{StillLost, line_settles, line_asks, line_waits_first, line_waits, line_takes}
 use Rattle.serve_links.proofs.Story.{go_between}
 use Rattle.serve_links.proofs.Due.{one_due, one_apart}
 use Rattle.serve_links.proofs.Shutting.{shut_quiet}
@@ -76,18 +76,18 @@ pub line_same :
     → line_of y ≡ line_of x
 line_same x y c d was is number held unsent sent =
     ap line_of is
-    ∙ line_parts x.waiting.items x.awaits_dialect x.dialect (said_late x.late.items) (drain_of x) refl (ap (λ (s : ℕ × List ℕ × List ℕ). Some s) (same_state c d number held unsent) ∙ sym (ap (option_map {U = ℕ × List ℕ × List ℕ} conn_state) was)) (ap said_asks sent)
+    ∙ line_parts x.waiting x.awaits_dialect x.dialect (said_late x.late.items) (drain_of x) refl (ap (λ (s : ℕ × List ℕ × List ℕ). Some s) (same_state c d number held unsent) ∙ sym (ap (option_map {U = ℕ × List ℕ × List ℕ} conn_state) was)) (ap said_asks sent)
 
 -- so has one that has the same calls in others
 pub line_calls : (x y : Link) → y ≡ record x { calls = y.calls } → y.calls.sent.items ≡ x.calls.sent.items → line_of y ≡ line_of x
-line_calls x y is sent = ap line_of is ∙ line_parts x.waiting.items x.awaits_dialect x.dialect (said_late x.late.items) (drain_of x) refl refl (ap said_asks sent)
+line_calls x y is sent = ap line_of is ∙ line_parts x.waiting x.awaits_dialect x.dialect (said_late x.late.items) (drain_of x) refl refl (ap said_asks sent)
 
 -- and one that has the same but for what tells how often it failed, where it counts as many connections that were given up
 pub line_vain : (x y : Link) → line_of y ≡ line_of (record x { lost = y.lost }) → y.lost ≡ x.lost → line_of y ≡ line_of x
 line_vain x y is same = is ∙ ap (λ n. line_of (record x { lost = n })) same
 
 -- and one for which as many calls wait
-pub line_waiting : (x y : Link) → y ≡ record x { waiting = y.waiting } → y.waiting.items ≡ x.waiting.items → line_of y ≡ line_of x
+pub line_waiting : (x y : Link) → y ≡ record x { waiting = y.waiting } → y.waiting ≡ x.waiting → line_of y ≡ line_of x
 line_waiting x y is waiting =
     ap line_of is ∙ ap (λ (w : List SentCall). let s : LineState = (server_and_opened x, option_map {U = ℕ × List ℕ × List ℕ} conn_state x.conn, said_asks x.calls.sent.items, w, x.awaits_dialect, x.dialect, said_late x.late.items, drain_of x) in s) waiting
 
@@ -106,8 +106,12 @@ pub not_asked :
 not_asked x y c d call given was is same did = (did.0, line_same x y c d was is (ap (λ (z : Conn). z.number) same) (ap (λ (z : Conn). z.held.items) same) did.2 did.1)
 
 -- it waits
-pub waits : (x y : Link) (call : SentCall) → y ≡ record x { waiting = y.waiting } → y.waiting.items ≡ x.waiting.items ++ call ∷ [] → LineTakes call x y
+pub waits : (x y : Link) (call : SentCall) → y ≡ record x { waiting = y.waiting } → y.waiting ≡ x.waiting ++ call ∷ [] → LineTakes call x y
 waits x y call is more = λ at h core. line_waits x y call is more
+
+-- or before all others, where memory was refused for writing it and nothing else of the link has changed
+pub waits_first : (x m y : Link) (call : SentCall) → line_of m ≡ line_of x → y ≡ record m { waiting = y.waiting } → y.waiting ≡ call ∷ m.waiting → LineTakes call x y
+waits_first x m y call same is first = λ at h core. line_waits_first x m y call same is first
 
 -- so do all links
 pub taken : (links : List Link) (at : ℕ) (x y : Link) (call : SentCall) → at < length links → x ≡ get_or links at x → LineTakes call x y → LinksTake at call links (set links at y)
@@ -120,15 +124,15 @@ not_taken links at x y call given was did = (did.0, line_lent links at x y was d
 -- of those that wait the first is taken
 pub given :
     (links : List Link) (at : ℕ) (x y : Link) (r : Option SentCall) → at < length links → x ≡ get_or links at x → y ≡ record x { waiting = y.waiting }
-    → MatchOption r (y.waiting.items ≡ x.waiting.items) (λ call. x.waiting.items ≡ call ∷ y.waiting.items)
+    → MatchOption r (y.waiting ≡ x.waiting) (λ call. x.waiting ≡ call ∷ y.waiting)
     → MatchOption r (link_lines (set links at y) ≡ link_lines links) (λ call. LinksGive at call links (set links at y))
 given links at x y None within was is did = line_lent links at x y was (line_waiting x y is did)
-given links at x y (Some call) within was is did = λ h cs core. line_gave links at x y call within was (line_takes x y call [] y.waiting.items is did refl)
+given links at x y (Some call) within was is did = λ h cs core. line_gave links at x y call within was (line_takes x y call [] y.waiting is did refl)
 
 -- or one that may go out, wherever it stands
 pub given_from :
     (links : List Link) (at : ℕ) (x y : Link) (r : Option SentCall) → at < length links → x ≡ get_or links at x → y ≡ record x { waiting = y.waiting }
-    → MatchOption r (y.waiting.items ≡ x.waiting.items) (λ call. CallIsTaken x.waiting.items call y.waiting.items)
+    → MatchOption r (y.waiting ≡ x.waiting) (λ call. CallIsTaken x.waiting call y.waiting)
     → MatchOption r (link_lines (set links at y) ≡ link_lines links) (λ call. LinksGive at call links (set links at y))
 given_from links at x y None within was is did = line_lent links at x y was (line_waiting x y is did)
 given_from links at x y (Some call) within was is did = λ h cs core. line_gave links at x y call within was (line_takes x y call did.0 did.1 is did.2 did.3)
@@ -167,10 +171,10 @@ begun_not at dialect x y h h' opening.NoMemory opens none isnt = none_kept x.con
 -- the same of one that isn't sent
 pub given_late :
     (links : List Link) (at : ℕ) (x y : Link) (r : Option NotSent) → at < length links → x ≡ get_or links at x → y ≡ record x { waiting = y.waiting }
-    → MatchOption r (y.waiting.items ≡ x.waiting.items) (λ it. x.waiting.items ≡ it.call ∷ y.waiting.items)
+    → MatchOption r (y.waiting ≡ x.waiting) (λ it. x.waiting ≡ it.call ∷ y.waiting)
     → MatchOption r (link_lines (set links at y) ≡ link_lines links) (λ it. LinksGive at it.call links (set links at y))
 given_late links at x y None within was is did = line_lent links at x y was (line_waiting x y is did)
-given_late links at x y (Some it) within was is did = λ h cs core. line_gave links at x y it.call within was (line_takes x y it.call [] y.waiting.items is did refl)
+given_late links at x y (Some it) within was is did = λ h cs core. line_gave links at x y it.call within was (line_takes x y it.call [] y.waiting is did refl)
 
 -- why a call isn't sent over the link at a place
 pub refused_set : (why : Refusal) (links : List Link) (at since now : ℕ) (y : Link) → at < length links → IsRefused why since now y → IsRefusedAt why at since now (set links at y)
@@ -223,16 +227,11 @@ called_at {Q} {Is} {a} {b} at call same shown stands asks g =
         let counts : given_in past call.ticket.number ≤ call.since = omega (arith, since) in (
           was.0,
           may_go past a at call stands asks was.0 was.1,
-          λ link there. (due, one_apart past call.ticket.number at call.ticket.ask was.1 (said_asks link.waiting.items) was.0.orderly was.2.orderly (was.2.links at link there).due, (was.0.links at link there).due, counts),
+          λ link there. (due, one_apart past call.ticket.number at call.ticket.ask was.1 (said_asks link.waiting) was.0.orderly was.2.orderly (was.2.links at link there).due, (was.0.links at link there).due, counts),
           (due, tt, tt, counts),
         )
 
 -- ---- answers
-
--- what agrees may be said to be lost
-pub line_may_lose :
-    {P : ℕ → List Step → List WireEvent → Link → Type 0} {Is : Step → Type 0} {at : ℕ} {a b : ServedCore} {h h' : List WireEvent} {x y : Link} → LineGoesFrom P LineAgrees Is at a h x b h' y → LineGoesFrom P LineLost Is at a h x b h' y
-line_may_lose {at = at} {h' = h'} {y = y} g = line_between (λ past was. was) (λ past was. as_lost at past h' y was) g
 
 -- a link counts no connection that was given up any more, or as many as it did, and as many calls are out there as were
 abbrev pub AnswersTried : Link → Link → List SentCall → Type 0
@@ -249,19 +248,11 @@ answers_tried x y sent false settled none same any out = inr (same refl, out (an
 
 -- answers settled calls, and what is left is held
 pub settled :
-    {at : ℕ} {core core' : ServedCore} {h : List WireEvent} (x y : Link) (c d : Conn) (sent : List SentCall) → x.conn ≡ Some c → x.awaits_dialect ≡ None → x.late.items ≡ [] → y.conn ≡ Some d → server_and_opened y ≡ server_and_opened (record x { lost = y.lost }) → AnswersTried x y sent → y.waiting.items ≡ x.waiting.items
+    {at : ℕ} {core core' : ServedCore} {h : List WireEvent} (x y : Link) (c d : Conn) (sent : List SentCall) → x.conn ≡ Some c → x.awaits_dialect ≡ None → x.late.items ≡ [] → y.conn ≡ Some d → server_and_opened y ≡ server_and_opened (record x { lost = y.lost }) → AnswersTried x y sent → y.waiting ≡ x.waiting
     → y.awaits_dialect ≡ x.awaits_dialect → y.dialect ≡ x.dialect → y.late.items ≡ x.late.items → y.calls.sent.items ≡ sent → HoldsAnew c d → SettlesSome x.calls.sent.items c.held.items core sent d.held.items core' → LineGoes IsOfTurn at core h x core' h y
 settled {core = core} {core' = core'} x y c d sent was off alone is place tried waiting awaits speaks late same holds s =
     line_settles x y c d was is off alone place (still_tried x y sent same tried) waiting awaits speaks late (ap (λ (z : Conn). z.number) holds) (ap (λ (z : Conn). bytes_of z.unsent) holds)
     (subst (λ (l : List SentCall). SettlesSome x.calls.sent.items c.held.items core l d.held.items core') (sym same) s)
-
--- or may be lost
-pub settled_some :
-    {at : ℕ} {core core' : ServedCore} {h : List WireEvent} (x y : Link) (c d : Conn) (sent : List SentCall) → x.conn ≡ Some c → x.awaits_dialect ≡ None → x.late.items ≡ [] → y.conn ≡ Some d → server_and_opened y ≡ server_and_opened (record x { lost = y.lost }) → AnswersTried x y sent → y.waiting.items ≡ x.waiting.items
-    → y.awaits_dialect ≡ x.awaits_dialect → y.dialect ≡ x.dialect → y.late.items ≡ x.late.items → y.calls.sent.items ≡ sent → HoldsAnew c d → SettlesFront x.calls.sent.items c.held.items core sent core' → LineGoesFrom LineAgrees LineLost IsOfTurn at core h x core' h y
-settled_some {core = core} {core' = core'} x y c d sent was off alone is place tried waiting awaits speaks late same holds s =
-    line_loses x y c d s.0 was is off alone place (still_tried x y sent same tried) waiting awaits speaks late (ap (λ (z : Conn). z.number) holds) (ap (λ (z : Conn). bytes_of z.unsent) holds)
-    (subst (λ (l : List SentCall). SettlesSome x.calls.sent.items c.held.items core l s.0 core') (sym same) s.1)
 
 -- clients have the ends that they had, while what one link holds may be lost
 pub but_clients :

@@ -23,7 +23,7 @@ use Rattle.core_accepted.specs.declared.served.ServedCore.{ServedCore}
 use Rattle.core_accepted.specs.declared.tally.CoreTally.{CoreTally}
 use Rattle.core_accepted.specs.Logs.{MayHaveLed, LogsGoCounting, IsFreshLog, BeginSo, fed}
 use Rattle.core_accepted.specs.Results.{PollStops, TakesResult, SettleStops}
-use Rattle.serve_links.specs.CoreSteps.{Obstacle, WaitedLong, StoreLate, ForeignCame, LeftAlone, Unseen, Notes, Step, Opened, NotOpened, Fed, Polled, Stopped, Settled, Gave, Closed, LeftLine, Broke, Ticked, Loaded, Linked, Asked, Greeted, Spelled, Late, CameLate, Lost, Noted, Does, Walks}
+use Rattle.serve_links.specs.CoreSteps.{Step, Opened, NotOpened, Fed, Polled, Stopped, Settled, Gave, Closed, LeftLine, Broke, Ticked, Loaded, Linked, Asked, Greeted, Spelled, Late, CameLate, Lost, Noted, Does, Walks}
 use Rattle.core_accepted.proofs.Keeping.{since_are_fresh}
 use Rattle.core_accepted.proofs.Losses.{servers_may_lose}
 use Rattle.serve_links.proofs.Walked.{walks_keep_since}
@@ -190,13 +190,6 @@ module _ (opening : ℕ → List ℕ → Option Item) (past : List (Entry dialec
   stays_saying : new ≡ old → GoesOnSaying opening (λ entries. entries ≡ []) past new Holds
   stays_saying same = let s = by_none opening past old new led Holds holds same in ([], refl, λ past l. l, s.1, s.2)
 
-  noted_goes : (obstacle : Obstacle) → Notes obstacle old new → GoesOnSaying opening (λ entries. entries ≡ []) past new Holds
-  noted_goes (WaitedLong number limit) does = stays_saying does
-  noted_goes (StoreLate limit) does = stays_saying does
-  noted_goes ForeignCame does = stays_saying does
-  noted_goes (LeftAlone limit) does = stays_saying does
-  noted_goes (Unseen why) does = goes_by _ none_own does.1
-
   step_goes : (step : Step) → Does step old new → StepGoes opening step past old led new Holds
   step_goes (Opened client) does = goes_by _ none_own does.2
   step_goes (NotOpened fault) does = goes_by _ none_own does.1
@@ -213,7 +206,7 @@ module _ (opening : ℕ → List ℕ → Option Item) (past : List (Entry dialec
   step_goes (Linked at _) does = by_none opening past old new led Holds holds does
   step_goes (Asked at number _ ask since) does = by_none opening past old new led Holds holds does
   step_goes (Greeted at _ bytes) does = by_none opening past old new led Holds holds does
-  step_goes (Noted at obstacle) does = noted_goes obstacle does
+  step_goes (Noted at obstacle) does = stays_saying does
   step_goes (Late at number limit now) does = by_none opening past old new led Holds holds does
   step_goes (CameLate at number ask answer bytes) does = by_none opening past old new led Holds holds does
   step_goes (Spelled at number ask answer bytes) does = by_none opening past old new led Holds holds does.0

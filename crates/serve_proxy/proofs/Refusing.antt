@@ -1,12 +1,12 @@
 -- A call that isn't sent for a reason has failed.
-use Rattle.std.proofs.Common.{◌≡◌, ◌≢◌, ℕ, ◌+◌, ◌<◌, ◌≤◌, Bool, true, false, List, [], ◌∷◌, Option, Some, None, inl, inr, refl, sym, ap, ◌∙◌, subst, arith}
+use Rattle.std.proofs.Common.{◌≡◌, ◌≢◌, ℕ, ◌+◌, ◌<◌, ◌≤◌, Bool, true, false, List, [], ◌∷◌, length, Option, Some, None, inl, inr, refl, sym, ap, ◌∙◌, subst, arith}
+use Rattle.std.proofs.lemmas.List.{length-map}
 use Rattle.std.specs.Prelude.{IsSome, MatchOption, slice_get, ◌&&◌}
 use Rattle.std.specs.Option.{option_map}
 use Rattle.wire_parts.specs.Sending.{bytes_of}
 use Rattle.serve_wire.specs.Events.{WireEvent, time}
 use Rattle.serve_wire.specs.declared.conn.conn.Conn.{Conn}
 use Rattle.core_accepted.specs.declared.served.ServedCore.{ServedCore}
-use Rattle.core_accepted.specs.declared.tally.Unshown.TheVariants as unshown
 use Rattle.serve_clients.specs.declared.clients.Clients.{Clients}
 use Rattle.serve_links.specs.declared.calls.calls.SentCall.{SentCall}
 use Rattle.serve_links.specs.declared.link.Link.{Link}
@@ -16,13 +16,14 @@ use Rattle.serve_links.specs.declared.refusal.Refusal.{Refusal}
 use Rattle.serve_links.specs.declared.refusal.Refusal.TheVariants as refusals
 use Rattle.serve_links.specs.declared.settings.LinkLimits.{LinkLimits}
 use Rattle.serve_links.specs.Calls.{stores_first}
-use Rattle.serve_links.specs.CoreSteps.{Obstacle, WaitedLong, StoreLate, ForeignCame, LeftAlone, Unseen, Notes, Step, Noted, IsSending}
+use Rattle.serve_links.specs.CoreSteps.{Obstacle, WaitedLong, StoreLate, ForeignCame, LeftAlone, ManyWait, Step, Noted, IsSending}
 use Rattle.serve_links.specs.Called.{clock_in, given_in}
 use Rattle.serve_links.specs.Dialects.{awaits_flush}
 use Rattle.serve_links.specs.Lateness.{HasLate, awaits_store}
-use Rattle.serve_links.specs.Talks.{Apart, InUse, HasWaited, IsStoreFirst, IsFor, CanNotGo, IsTold, talk_in}
-use Rattle.serve_links.specs.Story.{address_and_opened, servers_of, most_of, IsByLimit, ObstacleIsShown, WasShown, LineAgrees, LineIsForeign, AnEnd, Agrees, AgreesSent, AgreesDue, AgreesRefused, AllGoFrom}
-use Rattle.serve_links.specs.Unsent.{IsRefused, IsHindered, IsLeftAlone, NotesRefusal}
+use Rattle.serve_links.specs.Talks.{SaidAsk, Apart, InUse, HasWaited, IsStoreFirst, IsFor, CanNotGo, IsTold, talk_in}
+use Rattle.serve_links.specs.Story.{said_asks, address_and_opened, servers_of, most_of, IsByLimit, ObstacleIsShown, WasShown, LineAgrees, LineIsForeign, AnEnd, Agrees, AgreesSent, AgreesDue, AgreesRefused, AllGoFrom}
+use Rattle.serve_links.specs.Links.{least_waiting}
+use Rattle.serve_links.specs.Unsent.{IsRefused, IsHindered, IsLeftAlone}
 use Rattle.serve_links.proofs.ByLimits.{servers_same, most_there}
 use Rattle.serve_links.proofs.Foreign.{fails_foreign}
 use Rattle.serve_links.proofs.LateGoes.{waited_of}
@@ -83,7 +84,7 @@ module _ (h : List WireEvent) (cs : Clients) (ls : List Link) (number at since :
 
   -- or it is noted
   by_note :
-      (obstacle : Obstacle) (a b : ServedCore) → Notes obstacle a b → IsFor number obstacle → ((past : List Step) → AgreesDue number at since past (With a) → IsTold obstacle at past × ObstacleIsShown obstacle at past h)
+      (obstacle : Obstacle) (a b : ServedCore) → b ≡ a → IsFor number obstacle → ((past : List Step) → AgreesDue number at since past (With a) → IsTold obstacle at past × ObstacleIsShown obstacle at past h)
       → IsByLimit (most_of (servers_of ls)) (Noted at obstacle) → Refuses a b
   by_note obstacle a b does is_for is by = record {
     steps = Noted at obstacle ∷ [];
@@ -132,7 +133,7 @@ module _ (h : List WireEvent) (cs : Clients) (ls : List Link) (number at since :
           (omega (arith, most, tried), out_some at past h link c agrees is alone.1)
 
   -- over a connection
-  over : (why : Refusal) (link : Link) (c : Conn) → slice_get ls at ≡ Some link → link.conn ≡ Some c → (a b : ServedCore) → NotesRefusal why a b → IsRefused why since (time h) link → Refuses a b
+  over : (why : Refusal) (link : Link) (c : Conn) → slice_get ls at ≡ Some link → link.conn ≡ Some c → (a b : ServedCore) → b ≡ a → IsRefused why since (time h) link → Refuses a b
   over refusals.NoConnection link c there is a b notes refused = no_conn link there refused a b notes
   over refusals.ServerLate link c there is a b notes refused = by_talk a b notes (λ past was. inr (inl (late_some at past h link c (was.links at link there) is refused.1)))
   over refusals.StoreLate link c there is a b notes refused = store_late link c there is refused.1 refused.2 a b notes
@@ -140,10 +141,10 @@ module _ (h : List WireEvent) (cs : Clients) (ls : List Link) (number at since :
   over refusals.ForeignCame link c there is a b notes refused = by_note ForeignCame a b notes tt (λ past due. (tt, foreign_shown at past h link c is refused.1 (due.0.links at link there))) tt
   over refusals.WaitedLong link c there is a b notes refused = waited link there refused a b notes
   over refusals.LeftAlone link c there is a b notes refused = left_alone link c there is refused.1 a b notes
-  over refusals.NoMemory link c there is a b notes refused = absurd refused
+  over refusals.ManyWait link c there is a b notes refused = absurd refused
 
   -- without one
-  without : (why : Refusal) (link : Link) → slice_get ls at ≡ Some link → link.conn ≡ None → (a b : ServedCore) → NotesRefusal why a b → IsRefused why since (time h) link → Refuses a b
+  without : (why : Refusal) (link : Link) → slice_get ls at ≡ Some link → link.conn ≡ None → (a b : ServedCore) → b ≡ a → IsRefused why since (time h) link → Refuses a b
   without refusals.NoConnection link there is a b notes refused = no_conn link there is a b notes
   without refusals.ServerLate link there is a b notes refused = no_conn link there is a b notes
   without refusals.StoreLate link there is a b notes refused = no_conn link there is a b notes
@@ -151,13 +152,16 @@ module _ (h : List WireEvent) (cs : Clients) (ls : List Link) (number at since :
   without refusals.ForeignCame link there is a b notes refused = no_conn link there is a b notes
   without refusals.WaitedLong link there is a b notes refused = no_conn link there is a b notes
   without refusals.LeftAlone link there is a b notes refused = absurd (none_isnt_some (subst (λ (o : Option Conn). IsSome o) is refused.0))
-  without refusals.NoMemory link there is a b notes refused = absurd refused
+  without refusals.ManyWait link there is a b notes refused = absurd refused
 
-  -- memory was refused for it
-  starved : (a b : ServedCore) → NotesRefusal refusals.NoMemory a b → Refuses a b
-  starved a b notes = by_note (Unseen unshown.NoMemory) a b notes tt (λ past due. (tt, tt)) tt
+  -- as many wait as there is always room for
+  many_wait : (link : Link) → slice_get ls at ≡ Some link → least_waiting ≤ length link.waiting → (a b : ServedCore) → b ≡ a → Refuses a b
+  many_wait link there many a b same = by_note ManyWait a b same tt (λ past due. ((said_asks link.waiting, (due.0.links at link there).due, told), tt)) tt
+    where
+      told : least_waiting ≤ length (said_asks link.waiting)
+      told = let len = length-map link.waiting (λ (call : SentCall). let said : SaidAsk = (call.ticket.number, call.dialect, call.ticket.ask, call.since) in said) in omega (arith, len, many)
 
-  pub refusal_goes : (why : Refusal) (a b : ServedCore) → NotesRefusal why a b → IsHinderedAt why at since (time h) ls → Refuses a b
+  pub refusal_goes : (why : Refusal) (a b : ServedCore) → b ≡ a → IsHinderedAt why at since (time h) ls → Refuses a b
   refusal_goes why a b notes refused = by (slice_get ls at) refl refused
     where
       one : (link : Link) (o : Option Conn) → slice_get ls at ≡ Some link → link.conn ≡ o → IsRefused why since (time h) link → Refuses a b
@@ -165,6 +169,6 @@ module _ (h : List WireEvent) (cs : Clients) (ls : List Link) (number at since :
       one link (Some c) there is r = over why link c there is a b notes r
 
       by : (o : Option Link) → slice_get ls at ≡ o → MatchOption o (why ≡ refusals.NoConnection) (IsHindered why since (time h)) → Refuses a b
-      by None none is = none_there a b (subst (λ w. NotesRefusal w a b) is notes) none
-      by (Some link) there (inl none) = starved a b (subst (λ w. NotesRefusal w a b) none notes)
+      by None none is = none_there a b notes none
+      by (Some link) there (inl many) = many_wait link there many.1 a b notes
       by (Some link) there (inr r) = one link link.conn there refl r

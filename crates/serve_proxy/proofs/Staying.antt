@@ -89,7 +89,7 @@ line_opens at dialect what h h' x y o = λ core. line_begins x y dialect what o
 
 -- or none, and its calls fail for a while
 pub line_opens_not :
-    (at : ℕ) (dialect : ServerDialect) (what : Opening) (h h' : List WireEvent) (x y z : Link) → OpensLink at dialect what x y h h' → y.conn ≡ None → z.conn ≡ None → z.draining ≡ y.draining → address_and_limits z ≡ address_and_limits y → z.waiting.items ≡ y.waiting.items → z.calls.sent.items ≡ y.calls.sent.items → z.lost ≡ y.lost → LineStands at h h' x z
+    (at : ℕ) (dialect : ServerDialect) (what : Opening) (h h' : List WireEvent) (x y z : Link) → OpensLink at dialect what x y h h' → y.conn ≡ None → z.conn ≡ None → z.draining ≡ y.draining → address_and_limits z ≡ address_and_limits y → z.waiting ≡ y.waiting → z.calls.sent.items ≡ y.calls.sent.items → z.lost ≡ y.lost → LineStands at h h' x z
 line_opens_not at dialect what h h' x y z o none closed draining server waiting sent lost = λ core. line_shuts (line_begins x y dialect what o) none closed draining server waiting sent lost
 
 -- ---- all ends

@@ -50,8 +50,8 @@ line_ticks : (t at : ℕ) (past : List Step) (h : List WireEvent) (link : Link) 
 line_ticks t at past h link was = record {
   conn = λ conn is. talk_ticks t (was.conn conn is);
   goes_on = was.goes_on;
-  waiting = calls_later (Ticked t ∷ []) past at link.waiting.items was.waiting;
-  due = due_stays past (Ticked t ∷ past) at (said_asks link.waiting.items) (λ n ask is. (refl, refl, refl)) was.due;
+  waiting = calls_later (Ticked t ∷ []) past at link.waiting was.waiting;
+  due = due_stays past (Ticked t ∷ past) at (said_asks link.waiting) (λ n ask is. (refl, refl, refl)) was.due;
   none_out = λ none. ((was.none_out none).0, all_given_later (Ticked t ∷ []) past (said_asks link.calls.sent.items) (was.none_out none).1);
   unused = λ none. unused_ticks t h at link.text.items (talk_in past at) (drain_of link) (was.unused none);
   called = called_stays past (Ticked t ∷ past) at (said_asks link.calls.sent.items) (λ n ask is. (refl, refl, refl)) was.called;

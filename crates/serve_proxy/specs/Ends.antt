@@ -24,7 +24,7 @@ use Rattle.serve_proxy.specs.Limiting.{AreLimited}
 use Rattle.serve_proxy.specs.declared.sockets.Sockets.{Sockets}
 use Rattle.serve_links.specs.Lateness.{AwaitsLate}
 use Rattle.serve_links.specs.Talks.{Standing, standing_after}
-use Rattle.serve_links.specs.Story.{LineState, line_of, LineAgrees, LineFails, LineLeaves, LineCalled, LineGoesFrom, LineGoes, OneGoes, AnEnd, Agrees, AgreesGiven, AgreesBut, AgreesCalled, AgreesSent, AllGoFrom, AllGo, texts_of, servers_of}
+use Rattle.serve_links.specs.Story.{LineState, line_of, HoldsMost, LineAgrees, LineFails, LineCalled, LineGoesFrom, LineGoes, OneGoes, AnEnd, Agrees, AgreesGiven, AgreesBut, AgreesCalled, AgreesSent, AllGoFrom, AllGo, texts_of, servers_of}
 
 -- what each link has to do with its connection and its calls
 abbrev pub link_lines : List Link → List LineState
@@ -78,6 +78,10 @@ HoldsAwaited link = link.calls.sent.items ≡ [] → link.late.items ≡ [] → 
 abbrev pub HoldsAwaitedAt : ℕ → List Link → Type 0
 HoldsAwaitedAt at links = IfSome (slice_get links at) HoldsAwaited
 
+-- so much is held of the link at this place that it is to be given up, if there is one
+abbrev pub HoldsMostAt : ℕ → List Link → Type 0
+HoldsMostAt at links = IfSome (slice_get links at) HoldsMost
+
 -- of links alone: this call, which may go to this server, was taken over by its link; or it was taken from there
 abbrev pub LinksTake : ℕ → SentCall → List Link → List Link → Type 0
 LinksTake at call ls ls' = (h : List WireEvent) (cs : Clients) → EndsGoFrom (AgreesSent at call) Agrees h h cs cs ls ls'
@@ -109,6 +113,14 @@ over_by got.Failed = Some causes.Broken
 abbrev pub over_of : Option Got → Option Cause
 over_of None = None
 over_of (Some what) = over_by what
+
+-- what a read gave of an end that holds less than it may
+abbrev pub unless_full : Got → Option Got
+unless_full got.Bytes = Some got.Bytes
+unless_full got.Nothing = Some got.Nothing
+unless_full got.Full = None
+unless_full got.Ended = Some got.Ended
+unless_full got.Failed = Some got.Failed
 
 -- why a link is to be given up on which nothing is out: nothing may come over it
 abbrev pub idle_cause : Got → Option Cause
@@ -175,10 +187,10 @@ AllSendFrom Before history core sockets core' sockets' = AllGoFrom Before Agrees
 abbrev pub AllFailOn : {W : Type 0} → (W → List WireEvent) → ServedCore → Sockets W → ServedCore → Sockets W → Type 0
 AllFailOn history core sockets core' sockets' = AllSendFrom Agrees history core sockets core' sockets'
 
--- the link at this place, whose bytes may be lost, is given up, for whatever its connection shows that leaves it so, or what was just noted: its calls fail, and nothing else is done with the core
+-- the link at this place, whose bytes may be lost, is given up, for whatever its connection shows that leaves it so: its calls fail, and nothing else is done with the core
 abbrev pub AllLeave : {W : Type 0} → Standing → ℕ → (W → List WireEvent) → ServedCore → Sockets W → ServedCore → Sockets W → Type 0
 AllLeave standing at history core sockets core' sockets' =
-    (why : Option Cause) → standing_after why ≡ standing → AllGoFrom (AgreesBut (LineLeaves why) at) Agrees (IsGivingUp why) (end_of history core sockets) (end_of history core' sockets')
+    (why : Option Cause) → standing_after why ≡ standing → AllGoFrom (AgreesBut (LineFails why) at) Agrees (IsGivingUp why) (end_of history core sockets) (end_of history core' sockets')
 
 -- it is given up for this cause, and where it can't be kept its end may be seen with that
 abbrev pub AllGiveUp : {W : Type 0} → ℕ → Cause → (W → List WireEvent) → ServedCore → Sockets W → ServedCore → Sockets W → Type 0

@@ -9,7 +9,7 @@ use Rattle.serve_links.specs.Unsent.{TakesCalls, WaitsTooLong, IsRefused, IsHind
 abbrev pub IsRefusedAt : Refusal → (at since now : ℕ) → List Link → Type 0
 IsRefusedAt why at since now links = MatchOption (slice_get links at) (why ≡ refusals.NoConnection) (IsRefused why since now)
 
--- it isn't sent for such a reason, or as memory was refused for it
+-- it isn't sent for such a reason, or as many calls wait for the link as there is always room for
 abbrev pub IsHinderedAt : Refusal → (at since now : ℕ) → List Link → Type 0
 IsHinderedAt why at since now links = MatchOption (slice_get links at) (why ≡ refusals.NoConnection) (IsHindered why since now)
 

@@ -2,15 +2,15 @@
 
 ghost use Rattle.std.specs.Prelude.{◌≡◌, ◌≢◌, ℕ, false, [], None, Some, IfSome};
 ghost use Rattle.serve_clients.specs.Agrees.{KeepsEnds};
-ghost use Rattle.serve_links.specs.Story.{line_of};
-ghost use Rattle.serve_proxy.specs.Ends.{LineStandsUnless, LineGoesUnless, over_by, over_of, AgreesUnless, Stay, GoAloneUnless, AllFailOn, AllGoOn, AllGoUnless, AllGoFromUnless};
+ghost use Rattle.serve_links.specs.Story.{line_of, HoldsMost};
+ghost use Rattle.serve_proxy.specs.Ends.{LineStandsUnless, LineGoesUnless, over_by, over_of, unless_full, AgreesUnless, Stay, GoAloneUnless, HoldsMostAt, AllFailOn, AllGoOn, AllGoUnless, AllGoFromUnless};
 
 use crate::calls::begin_settled;
 use crate::failing::fail_link;
 use crate::sockets::Sockets;
 use core_accepted::ServedCore;
 use serve_clients::Clients;
-use serve_links::{Cause, KEPT_ROOM, Left, Link, settle_held, vain};
+use serve_links::{Cause, KEPT_ROOM, Left, Link, MOST_HELD, settle_held, vain};
 use serve_wire::Wire;
 use serve_wire::conn::Got;
 
@@ -61,8 +61,32 @@ fn read_link<W: Wire>(core: &mut ServedCore, sockets: &mut Sockets<W>, at: usize
 {
     match sockets.read_link_once(at) {
         Some(got) => take_read(core, sockets, at, got),
-        None => None,
+        None => take_unread(core, sockets, at),
     }
+}
+
+// What the link holds is read where memory was refused for that before. Why the link fails by that, if it does.
+fn take_unread<W: Wire>(core: &mut ServedCore, sockets: &mut Sockets<W>, at: usize) -> Option<Cause>
+    ensures ends { AllGoUnless at result W.history core.old sockets.old core.new sockets.new }
+{
+    if !sockets.links.has_unread(at) {
+        return None;
+    }
+    take_said_at(core, sockets, at)
+}
+
+// A read of the link brought nothing. What it holds is read where memory was refused for that before. Why the link fails by that, if it does.
+fn take_nothing<W: Wire>(
+    core: &mut ServedCore,
+    sockets: &mut Sockets<W>,
+    at: usize,
+) -> Option<Cause>
+    ensures ends { AllGoUnless at result W.history core.old sockets.old core.new sockets.new }
+{
+    if !sockets.links.has_unread(at) {
+        return sockets.read_in_vain(at);
+    }
+    take_said_at(core, sockets, at)
 }
 
 // A read of the link gave this, and all whole answers are settled. Why the link fails by that, if it does.
@@ -72,6 +96,7 @@ fn take_read<W: Wire>(
     at: usize,
     got: Got,
 ) -> Option<Cause>
+    requires full { got ≡ Got.Full → HoldsMostAt at sockets.old.links.all.items }
     ensures ends { AllGoFromUnless (AgreesUnless at (over_by got)) at result W.history core.old sockets.old core.new sockets.new }
 {
     match got {
@@ -79,7 +104,7 @@ fn take_read<W: Wire>(
             sockets.note_came(at);
             take_said_at(core, sockets, at)
         }
-        Got::Nothing => sockets.read_in_vain(at),
+        Got::Nothing => take_nothing(core, sockets, at),
         Got::Full => Some(Cause::NoRoom),
         Got::Ended => Some(Cause::Closed),
         Got::Failed => Some(Cause::Broken),
@@ -98,6 +123,7 @@ fn take_said_at<W: Wire>(
     let Some(link) = sockets.links.all.get_mut(at) else {
         return None;
     };
+    link.has_unread = false;
     take_said(
         link,
         core,
@@ -135,10 +161,19 @@ fn take_said(
         return match left {
             Left::Begun => None,
             Left::NoAnswer => Some(Cause::ForeignAnswer),
-            Left::NoMemory => Some(Cause::NoRoom),
+            Left::NoMemory => put_off(link),
         };
     }
     take_answers(link, core, clients, is_freed, has_answered, polls)
+}
+
+// Memory was refused for reading what the link holds: it is read again in the next turn. Nothing fails by that.
+fn put_off(link: &mut Link) -> Option<Cause>
+    ensures line { line_of link.new ≡ line_of link.old }
+    ensures none { result ≡ None }
+{
+    link.has_unread = true;
+    None
 }
 
 // Whether the server has said something whole: what comes before answers, or an answer that settled a call.
@@ -171,19 +206,20 @@ fn take_answers(
     match answers.left {
         Left::Begun => vain(has_failed),
         Left::NoAnswer => Some(Cause::ForeignAnswer),
-        Left::NoMemory => Some(Cause::NoRoom),
+        Left::NoMemory => put_off(link),
     }
 }
 
 impl<W: Wire> Sockets<W> {
-    // One read of the link, if something may have come over it: what it gave.
+    // One read of the link, if something may have come over it: what it gave, if it was made.
     fn read_link_once(&mut self, at: usize) -> Option<Got>
         ensures ends { GoAloneUnless at (over_of result) W.history self.old self.new }
+        ensures full { result ≡ Some Got.Full → HoldsMostAt at self.new.links.all.items }
     {
         match self.links.all.get_mut(at) {
             Some(link) => {
                 let got = read_line(link, &mut self.wire);
-                self.stalls.note_short(lacks_memory(link, got));
+                self.stalls.note_short(link.lacks_memory());
                 got
             }
             None => None,
@@ -216,11 +252,23 @@ impl<W: Wire> Sockets<W> {
     }
 }
 
-/// One read of the link, if something may have come over its connection: what it gave. What comes is too much where memory is refused for it.
+// What a read gave of an end that holds less than it may: nothing is full.
+fn unless_full(got: Got) -> Option<Got>
+    ensures { result ≡ unless_full got }
+{
+    match got {
+        Got::Full => None,
+        Got::Bytes | Got::Nothing | Got::Ended | Got::Failed => Some(got),
+    }
+}
+
+/// One read of the link, if something may have come over its connection: what it gave, if it was made. Where memory is refused for it it is made again later,
+/// and no call goes out before. `Got::Full` comes where [`MOST_HELD`] bytes or more are held.
 pub fn read_line<W: Wire>(link: &mut Link, wire: &mut W) -> Option<Got>
     ensures stands { (at : ℕ) → LineStandsUnless (over_of result) at (W.history wire.old) (W.history wire.new) link.old link.new }
     ensures came { result ≡ Some Got.Bytes → IfSome link.new.conn (λ conn. conn.held.items ≢ []) }
-    ensures rest { link.new ≡ record link.old { conn = link.new.conn } }
+    ensures full { result ≡ Some Got.Full → HoldsMost link.new }
+    ensures rest { link.new ≡ record link.old { conn = link.new.conn; is_starved = link.new.is_starved } }
 {
     let room = link.read_room();
     let Some(conn) = link.conn.as_mut() else {
@@ -229,17 +277,18 @@ pub fn read_line<W: Wire>(link: &mut Link, wire: &mut W) -> Option<Got>
     if !conn.readable {
         return None;
     }
-    match conn.read_once(wire, room) {
-        Ok(got) => Some(got),
-        Err(_) => Some(Got::Full),
+    if conn.held.len() >= MOST_HELD {
+        return Some(Got::Full);
     }
-}
-
-// Whether memory was refused for what came over it, by what a read gave.
-fn lacks_memory(link: &Link, got: Option<Got>) -> bool {
-    match (&link.conn, got) {
-        (Some(conn), Some(Got::Full)) => conn.held.len() < conn.limits.held,
-        _ => false,
+    match conn.read_once(wire, room) {
+        Ok(got) => {
+            link.is_starved = false;
+            unless_full(got)
+        }
+        Err(_) => {
+            link.is_starved = true;
+            None
+        }
     }
 }
 

@@ -2,7 +2,7 @@
 
 ghost use Rattle.std.specs.Prelude.{◌≡◌, ◌≤◌, ◌⊎◌, true, false};
 ghost use Rattle.serve_links.specs.Story.{AgreesSent, AgreesDue};
-ghost use Rattle.serve_proxy.specs.Ends.{AgreesTicket, AllSendFrom, AllFailOn};
+ghost use Rattle.serve_proxy.specs.Ends.{Stay, AgreesTicket, AllSendFrom, AllFailOn};
 ghost use Rattle.serve_proxy.specs.Unsent.{IsRefusedAt, IsHinderedAt, WaitsTooLongAt};
 ghost use Rattle.serve_wire.specs.Events.{time};
 
@@ -11,7 +11,7 @@ use crate::sockets::Sockets;
 use core_accepted::ServedCore;
 use core_proxy::Ticket;
 use serve_links::calls::{SentCall, fail_call};
-use serve_links::{NotSent, note_refusal};
+use serve_links::{NotSent, Placed};
 use serve_wire::Wire;
 use std::net::Net;
 
@@ -57,7 +57,7 @@ fn send_looked<W: Wire, N: Net>(
     if sockets.links.is_full(at, bulk) {
         return let_wait(core, sockets, at, call);
     }
-    begin_call(core, sockets, at, call);
+    let _ = begin_call(core, sockets, at, call);
     sockets.links.mark_output(at)
 }
 
@@ -78,6 +78,14 @@ impl<W: Wire> Sockets<W> {
         self.links
             .bulk_of(at, ticket.ask.get(), self.clients.expects(id))
     }
+
+    // A call of this client waits for its server.
+    fn note_waits(&mut self, at: usize, client: usize)
+        ensures ends { Stay W.history self.old self.new }
+    {
+        self.links.note_limit(at);
+        self.clients.mark_waiting(client);
+    }
 }
 
 // The call waits until its server takes more, or has failed. Until then none of its client's commands begins.
@@ -86,31 +94,41 @@ fn let_wait<W: Wire>(core: &mut ServedCore, sockets: &mut Sockets<W>, at: usize,
 {
     let client = call.client;
     match sockets.links.let_wait(at, call) {
-        Ok(()) => {
-            sockets.links.note_limit(at);
-            sockets.clients.mark_waiting(client);
-        }
+        Ok(()) => sockets.note_waits(at, client),
         Err(it) => refuse(core, sockets, at, it),
     }
 }
 
-// The call is written to its server's link, or has failed.
-fn begin_call<W: Wire>(core: &mut ServedCore, sockets: &mut Sockets<W>, at: usize, call: SentCall)
+// The call is written to its server's link, or has failed. Where memory is refused for writing it it waits for that, before all others, and it is told so.
+fn begin_call<W: Wire>(
+    core: &mut ServedCore,
+    sockets: &mut Sockets<W>,
+    at: usize,
+    call: SentCall,
+) -> bool
     ensures ends { AllSendFrom (AgreesSent at call) W.history core.old sockets.old core.new sockets.new }
 {
     let now = sockets.wire.last_micros();
+    let client = call.client;
     match sockets.links.write_call(at, call, now) {
-        Ok(()) => {}
-        Err(it) => refuse(core, sockets, at, it),
+        Ok(Placed::Sent) => false,
+        Ok(Placed::Waits) => {
+            sockets.note_waits(at, client);
+            sockets.links.mark_output(at);
+            true
+        }
+        Err(it) => {
+            refuse(core, sockets, at, it);
+            false
+        }
     }
 }
 
-// The call has failed, and was never sent, for a reason that what was said over its server's connection tells, or as memory was refused, which is counted.
+// The call has failed, and was never sent, for a reason that what was said over its server's connection tells, or the calls that wait for it.
 fn refuse<W: Wire>(core: &mut ServedCore, sockets: &mut Sockets<W>, at: usize, it: NotSent)
     requires { IsHinderedAt it.why at it.call.since (time (W.history sockets.old.wire)) sockets.old.links.all.items }
     ensures ends { AllSendFrom (AgreesDue it.call.ticket.number at it.call.since) W.history core.old sockets.old core.new sockets.new }
 {
-    note_refusal(core, it.why);
     let client = it.call.client;
     fail_call(core, it.call.ticket);
     sockets.links.note_unsent(at, 1);
@@ -141,7 +159,7 @@ fn begin_next<W: Wire>(core: &mut ServedCore, sockets: &mut Sockets<W>, at: usiz
     }
 }
 
-// The call that waited is written to its server's link, or has failed. It tells `true`.
+// The call that waited is written to its server's link, or has failed. Whether it waits no longer.
 fn begin_waited<W: Wire>(
     core: &mut ServedCore,
     sockets: &mut Sockets<W>,
@@ -153,8 +171,7 @@ fn begin_waited<W: Wire>(
     sockets.clients.end_waiting(call.client);
     let bulk = sockets.bulk_of(call.client, at, &call.ticket);
     let call = renewed(call, bulk, sockets.time, sockets.links.call_ms(at));
-    begin_call(core, sockets, at, call);
-    true
+    !begin_call(core, sockets, at, call)
 }
 
 /// Calls that have waited too long for the link fail, who waited longest first. The link stays as it is.

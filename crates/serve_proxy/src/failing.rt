@@ -6,13 +6,13 @@ ghost use Rattle.serve_links.specs.Lateness.{HasLateAt, AllLetStoresWait, IsConn
 ghost use Rattle.serve_links.specs.Links.{IsDownAt, IsClosedAt};
 ghost use Rattle.serve_links.specs.Talks.{Apart, Ending};
 ghost use Rattle.serve_proxy.specs.Ends.{idle_cause, AwaitsNothing, GoAlone, GoAloneUnless, LineStands, AllSendFrom, AllFailOn, AllGiveUp, AllLeave, AllGoOn};
-ghost use Rattle.serve_links.specs.Story.{AgreesBut, LineLeaves};
+ghost use Rattle.serve_links.specs.Story.{AgreesBut, LineFails};
 
 use crate::answers::{read_line, serve_link};
 use crate::calls::fail_waited;
 use crate::sockets::{Sockets, close_if_any, shut_if_any};
 use core_accepted::ServedCore;
-use serve_links::{Cause, Lateness, Link, fail_all, fail_late as fail_out, note_cause};
+use serve_links::{Cause, Lateness, Link, fail_all, fail_late as fail_out};
 use serve_wire::Wire;
 use serve_wire::conn::Got;
 
@@ -27,14 +27,13 @@ pub fn fail_link<W: Wire>(core: &mut ServedCore, sockets: &mut Sockets<W>, at: u
     ensures ends { AllGiveUp at cause W.history core.old sockets.old core.new sockets.new }
 {
     let waiting = sockets.links.waiting(at);
-    note_cause(core, cause);
     leave_link(core, sockets, at, cause);
     sockets.links.note_unsent(at, waiting)
 }
 
 // The link's calls have all failed, and its connection is closed, or used no more until its end has come.
 fn leave_link<W: Wire>(core: &mut ServedCore, sockets: &mut Sockets<W>, at: usize, cause: Cause)
-    ensures ends { AllSendFrom (AgreesBut (LineLeaves (Some cause)) at) W.history core.old sockets.old core.new sockets.new }
+    ensures ends { AllSendFrom (AgreesBut (LineFails (Some cause)) at) W.history core.old sockets.old core.new sockets.new }
 {
     if !cause.drains() {
         return shut_link(core, sockets, at, cause);

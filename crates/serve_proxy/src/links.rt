@@ -29,7 +29,8 @@ use route_json::addresses::Servers;
 use serde_json::Value;
 use serve_links::calls::SentCall;
 use serve_links::{
-    Cause, KEPT_ROOM, Lateness, Link, LinkLimits, LinkNews, NotSent, Opening, Refusal, Settings,
+    Cause, KEPT_ROOM, Lateness, Link, LinkLimits, LinkNews, NotSent, Opening, Placed, Refusal,
+    Settings,
 };
 use serve_wire::{Ready, Wire};
 use std::alloc::{AllocError, Global};
@@ -136,13 +137,13 @@ fn barred(link: &Link) -> Option<Refusal>
     None
 }
 
-// Memory was refused for the call.
-fn starved(call: SentCall) -> NotSent
-    ensures { result ≡ record { call = call; why = Refusal.NoMemory } }
+// As many calls wait for the link as there is always room for.
+fn crowded(call: SentCall) -> NotSent
+    ensures { result ≡ record { call = call; why = Refusal.ManyWait } }
 {
     NotSent {
         call,
-        why: Refusal::NoMemory,
+        why: Refusal::ManyWait,
     }
 }
 
@@ -150,16 +151,29 @@ fn starved(call: SentCall) -> NotSent
 fn wait_for(link: &mut Link, call: SentCall) -> Result<(), NotSent>
     ensures ok { OnOk result (LineTakes call link.old link.new) }
     ensures err { IfErr result (λ it. (it.call ≡ call) × (line_of link.new ≡ line_of link.old)) }
-    ensures why { IfErr result (λ it. it.why ≡ Refusal.NoMemory) }
+    ensures why { IfErr result (λ it. (since at : ℕ) → IsHindered it.why since at link.new) }
 {
     match link.let_wait(call) {
         Ok(()) => Ok(()),
-        Err(call) => Err(starved(call)),
+        Err(call) => Err(crowded(call)),
     }
 }
 
-// The call is written to the link, which takes calls, or given back.
-fn ask_over(link: &mut Link, call: SentCall, now: u64) -> Result<(), NotSent>
+// The call, for which memory was refused, waits before all others, or is given back.
+fn wait_first(link: &mut Link, call: SentCall) -> Result<Placed, NotSent>
+    ensures rest { link.new ≡ record link.old { waiting = link.new.waiting } }
+    ensures ok { OnOk result (link.new.waiting ≡ call ∷ link.old.waiting) }
+    ensures err { IfErr result (λ it. (it.call ≡ call) × (line_of link.new ≡ line_of link.old)) }
+    ensures why { IfErr result (λ it. (since at : ℕ) → IsHindered it.why since at link.new) }
+{
+    match link.wait_first(call) {
+        Ok(()) => Ok(Placed::Waits),
+        Err(call) => Err(crowded(call)),
+    }
+}
+
+// The call is written to the link, which takes calls; or it waits for that, where memory is refused for it, or is given back.
+fn ask_over(link: &mut Link, call: SentCall, now: u64) -> Result<Placed, NotSent>
     requires late { link.old.late.items ≡ [] }
     requires emptied { awaits_flush link.old.awaits_dialect ≡ false }
     ensures ok { OnOk result (LineTakes call link.old link.new) }
@@ -173,13 +187,13 @@ fn ask_over(link: &mut Link, call: SentCall, now: u64) -> Result<(), NotSent>
         });
     };
     match link.calls.begin(call, now, &mut conn.unsent) {
-        Ok(()) => Ok(()),
-        Err(call) => Err(starved(call)),
+        Ok(()) => Ok(Placed::Sent),
+        Err(call) => wait_first(link, call),
     }
 }
 
-// The call is written to the link, or given back with why it isn't sent. `now` is in microseconds.
-fn write_to(link: &mut Link, call: SentCall, now: u64) -> Result<(), NotSent>
+// The call is written to the link, or waits for that, or is given back with why it isn't sent. `now` is in microseconds.
+fn write_to(link: &mut Link, call: SentCall, now: u64) -> Result<Placed, NotSent>
     ensures ok { OnOk result (LineTakes call link.old link.new) }
     ensures awaited { OnOk result (HoldsAwaited link.old) }
     ensures err { IfErr result (λ it. (it.call ≡ call) × (line_of link.new ≡ line_of link.old)) }
@@ -642,11 +656,19 @@ impl Links {
         }
     }
 
+    /// Whether what the link holds is to be read again, as memory was refused for that.
+    pub fn has_unread(&self, at: usize) -> bool {
+        match self.all.get(at) {
+            Some(link) => link.has_unread,
+            None => false,
+        }
+    }
+
     /// The link of this number is to be read again, where that may give more.
     pub fn mark_rest(&mut self, at: usize)
         ensures lines { link_lines self.new.all.items ≡ link_lines self.old.all.items }
     {
-        if self.may_have_more(at) {
+        if self.may_have_more(at) || self.has_unread(at) {
             self.mark_ready(at);
         }
     }
@@ -788,8 +810,9 @@ impl Links {
         self.all.get_mut(at)?.next_too_late(pace, now)
     }
 
-    /// The call is written to the link, or given back with why it isn't sent. `now` is in microseconds.
-    pub fn write_call(&mut self, at: usize, call: SentCall, now: u64) -> Result<(), NotSent>
+    /// The call is written to the link, or waits before all others where memory is refused for that, or is given back with why it isn't sent. `now` is in
+    /// microseconds.
+    pub fn write_call(&mut self, at: usize, call: SentCall, now: u64) -> Result<Placed, NotSent>
         ensures ok { OnOk result (LinksTake at call self.old.all.items self.new.all.items) }
         ensures awaited { OnOk result (HoldsAwaitedAt at self.old.all.items) }
         ensures err { IfErr result (λ it. (it.call ≡ call) × (link_lines self.new.all.items ≡ link_lines self.old.all.items)) }

@@ -1,5 +1,5 @@
 -- What one read and one write of an end do. Source: mcgate's own.
-use Rattle.std.specs.Prelude.{◌≡◌, ℕ, ◌<◌, ◌≤◌, nat_eq, Bool, false, ◌&&◌, ◌||◌, ◌⊎◌, ◌∷◌, ◌++◌, List, length, take, drop}
+use Rattle.std.specs.Prelude.{◌≡◌, ℕ, ◌<◌, ◌≤◌, nat_eq, Bool, false, ◌&&◌, ◌||◌, ◌⊎◌, [], ◌∷◌, ◌++◌, List, length, take, drop}
 use Rattle.serve_wire.specs.Events.{WireEvent, delivers, takes, ends, fails}
 use Rattle.serve_wire.specs.declared.conn.conn.Conn.{Conn}
 use Rattle.serve_wire.specs.declared.conn.conn.Got.{Got}
@@ -10,6 +10,10 @@ use Rattle.serve_wire.specs.declared.conn.conn.Sent.TheVariants as sent
 -- of an end nothing has changed but what it holds, and the room for that
 abbrev pub HoldsAnew : Conn → Conn → Type 0
 HoldsAnew x y = y ≡ record x { held = y.held; other = y.other; is_cut = y.is_cut }
+
+-- nothing stands in an end's other buffer, and it has room for so many bytes
+abbrev pub HasRoomAgain : ℕ → Conn → Type 0
+HasRoomAgain room x = (x.other.items ≡ []) × (room ≤ x.other.spare)
 
 -- bytes came over the connection, and stand after those that are held
 pub record ComesOver (c : ℕ) (held held' : List ℕ) (h h' : List WireEvent) : Type 0 where

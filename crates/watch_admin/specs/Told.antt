@@ -11,7 +11,6 @@ use Rattle.watch_admin.specs.declared.numbers.ClientNumbers.{ClientNumbers}
 use Rattle.watch_admin.specs.declared.numbers.CallNumbers.{CallNumbers}
 use Rattle.watch_admin.specs.declared.numbers.CommandNumbers.{CommandNumbers}
 use Rattle.watch_admin.specs.declared.numbers.ServerNumbers.{ServerNumbers}
-use Rattle.watch_admin.specs.declared.numbers.UnshownNumbers.{UnshownNumbers}
 
 -- the names of labels with their values, and the number that has them
 abbrev pub Labelled : Type 0
@@ -109,16 +108,6 @@ TellsServers servers families =
 -- mcgate_calls_unplaced_total: how often a call is counted at no server
 abbrev pub TellsUnplaced : CallNumbers → List Family → Type 0
 TellsUnplaced calls families = IsAmong (Tells (codes "mcgate_calls_unplaced_total") (([], Count calls.unplaced) ∷ [])) families
-
-abbrev pub unshown_counts : UnshownNumbers → List Labelled
-unshown_counts unshown =
-    one_labelled (codes "why") (codes "no_memory") unshown.no_memory
-    ∷ one_labelled (codes "why") (codes "no_room") unshown.no_room
-    ∷ []
-
--- mcgate_unshown_total{why}: how often a call wasn't sent, or a connection was given up, for what nothing shows
-abbrev pub TellsUnshown : UnshownNumbers → List Family → Type 0
-TellsUnshown unshown families = IsAmong (Tells (codes "mcgate_unshown_total") (unshown_counts unshown)) families
 
 -- some were added behind
 pub record AddsTo (old new : List Family) : Type 0 where

@@ -2,7 +2,7 @@
 
 ghost use Rattle.std.specs.Prelude.{◌≡◌, ◌++◌, [], ◌∷◌, IfOk, OnOk, codes, string_bytes, map as each_of, flat_map};
 ghost use Rattle.watch_admin.specs.declared.families.Amount.TheVariants.{Count};
-ghost use Rattle.watch_admin.specs.Told.{label_read, sample_read, command_count, command_counts, one_labelled, came_counts, ended_counts, server_count, made_count, outcome_count, outcome_counts, TellsCommands, TellsClients, TellsMessages, TellsBegun, TellsCalls, TellsServers, TellsUnplaced, TellsUnshown, unshown_counts, Tells, IsAmong, AddsTo};
+ghost use Rattle.watch_admin.specs.Told.{label_read, sample_read, command_count, command_counts, one_labelled, came_counts, ended_counts, server_count, made_count, outcome_count, outcome_counts, TellsCommands, TellsClients, TellsMessages, TellsBegun, TellsCalls, TellsServers, TellsUnplaced, Tells, IsAmong, AddsTo};
 
 use crate::families::{Amount, Family, Label, MetricKind, Sample, Samples, Spread};
 use std::alloc::{AllocError, Global};
@@ -91,15 +91,6 @@ pub struct CallNumbers {
     pub failed: u64,
     /// How often one that was made, or answered, or has failed, is counted at no server: memory was refused for that.
     pub unplaced: u64,
-}
-
-/// How often a call wasn't sent, or a server's connection was given up, for what nothing shows that came or was sent.
-#[derive(Clone, Copy)]
-pub struct UnshownNumbers {
-    /// Memory was refused for a call.
-    pub no_memory: u64,
-    /// There was no room for what came of a server.
-    pub no_room: u64,
 }
 
 /// How often something was for one cause.
@@ -198,7 +189,6 @@ pub struct Numbers {
     pub command_times: CommandTimes,
     pub calls: CallNumbers,
     pub servers: Vec<ServerNumbers>,
-    pub unshown: UnshownNumbers,
     /// How many requests for these numbers were answered before.
     pub scrapes: u64,
 }
@@ -1013,39 +1003,10 @@ fn add_servers(
     add_limits(alloc, servers, families)
 }
 
-fn unshown_samples(alloc: Global, unshown: &UnshownNumbers) -> Result<Vec<Sample>, AllocError>
-    ensures { IfOk result (λ samples. each_of sample_read samples.items ≡ unshown_counts unshown.now) }
-{
-    let mut samples = Vec::new(alloc);
-    samples.push(sample(alloc, "why", "no_memory", unshown.no_memory)?)?;
-    samples.push(sample(alloc, "why", "no_room", unshown.no_room)?)?;
-    Ok(samples)
-}
-
-// What was done for what nothing shows.
-#[tactic(auto, using(crate::proofs::Told::last_is_among))]
-fn add_unshown(
-    alloc: Global,
-    unshown: &UnshownNumbers,
-    families: &mut Vec<Family>,
-) -> Result<(), AllocError>
-    ensures adds { OnOk result (AddsTo families.old.items families.new.items) }
-    ensures told { OnOk result (TellsUnshown unshown.now families.new.items) }
-{
-    families.push(each(
-        "mcgate_unshown_total",
-        MetricKind::Counter,
-        "Calls that weren't sent, and connections of servers that were given up, for what nothing shows that came or was sent.",
-        unshown_samples(alloc, unshown)?,
-    ))?;
-    Ok(())
-}
-
-// Their answers, how often all this was asked, and what was done for what nothing shows.
+// Their answers, and how often all this was asked.
 #[tactic(auto, using(crate::proofs::Told::one_more, crate::proofs::Told::more_then))]
 fn add_rest(alloc: Global, numbers: &Numbers, families: &mut Vec<Family>) -> Result<(), AllocError>
-    ensures adds { OnOk result (AddsTo families.old.items families.new.items) }
-    ensures told { OnOk result (TellsUnshown numbers.now.unshown families.new.items) }
+    ensures { OnOk result (AddsTo families.old.items families.new.items) }
 {
     add_answers(alloc, numbers.servers.as_slice(), families)?;
     families.push(counter(
@@ -1053,14 +1014,14 @@ fn add_rest(alloc: Global, numbers: &Numbers, families: &mut Vec<Family>) -> Res
         "Requests for these numbers that were answered before.",
         numbers.scrapes,
     ))?;
-    add_unshown(alloc, &numbers.unshown, families)
+    Ok(())
 }
 
 /// The families of these numbers. One of them, `mcgate_client_connections_total`, has just how many clients were accepted and refused; one,
 /// `mcgate_bad_messages_total`, how many of their messages were refused; one, `mcgate_commands_begun_total`, how many commands have begun; one, `mcgate_commands_total`, of each operation how many commands ended with each
 /// kind of reply; `mcgate_calls_made_total` and `mcgate_calls_total` have how many calls were made, and how many of them were answered and have
 /// failed; and `mcgate_server_calls_made_total` and `mcgate_server_calls_total` the same of each server, where those unsent stand apart;
-/// `mcgate_calls_unplaced_total` how often a call is counted at no server; and `mcgate_unshown_total` how often something was done for what nothing shows. Of the numbers of other families no clause tells. The only error is that memory was refused.
+/// and `mcgate_calls_unplaced_total` how often a call is counted at no server. Of the numbers of other families no clause tells. The only error is that memory was refused.
 #[tactic(auto, using(crate::proofs::Told::more_then, crate::proofs::Told::stays_among))]
 pub fn families_of(alloc: Global, numbers: &Numbers) -> Result<Vec<Family>, AllocError>
     ensures clients { IfOk result (λ families. TellsClients numbers.now.clients families.items) }
@@ -1070,7 +1031,6 @@ pub fn families_of(alloc: Global, numbers: &Numbers) -> Result<Vec<Family>, Allo
     ensures calls { IfOk result (λ families. TellsCalls numbers.now.calls families.items) }
     ensures servers { IfOk result (λ families. TellsServers numbers.now.servers.items families.items) }
     ensures unplaced { IfOk result (λ families. TellsUnplaced numbers.now.calls families.items) }
-    ensures unshown { IfOk result (λ families. TellsUnshown numbers.now.unshown families.items) }
 {
     let mut families = Vec::new(alloc);
     add_process(alloc, &numbers.process, &mut families)?;
@@ -1115,7 +1075,6 @@ pub fn families_with_lines(alloc: Global, numbers: &Numbers) -> Result<Vec<Famil
     ensures calls { IfOk result (λ families. TellsCalls numbers.now.calls families.items) }
     ensures servers { IfOk result (λ families. TellsServers numbers.now.servers.items families.items) }
     ensures unplaced { IfOk result (λ families. TellsUnplaced numbers.now.calls families.items) }
-    ensures unshown { IfOk result (λ families. TellsUnshown numbers.now.unshown families.items) }
 {
     let mut families = families_of(alloc, numbers)?;
     families.push(each(

@@ -6,8 +6,8 @@ use std::test::Fail;
 use watch_admin::json::write_json;
 use watch_admin::numbers::{
     CallNumbers, CauseNumbers, ClientNumbers, CommandNumbers, CommandTimes, ConfigNumbers,
-    LimitNumbers, Numbers, ProcessNumbers, RefusalNumbers, ServerNumbers, SpanNumbers,
-    UnshownNumbers, families_of, families_with_lines,
+    LimitNumbers, Numbers, ProcessNumbers, RefusalNumbers, ServerNumbers, SpanNumbers, families_of,
+    families_with_lines,
 };
 use watch_admin::prometheus::write_prometheus;
 
@@ -140,10 +140,6 @@ mcgate_server_call_seconds_count{server="\"a\\:1?"} 18
 # HELP mcgate_scrapes_total Requests for these numbers that were answered before.
 # TYPE mcgate_scrapes_total counter
 mcgate_scrapes_total 17
-# HELP mcgate_unshown_total Calls that weren't sent, and connections of servers that were given up, for what nothing shows that came or was sent.
-# TYPE mcgate_unshown_total counter
-mcgate_unshown_total{why="no_memory"} 69
-mcgate_unshown_total{why="no_room"} 72
 "#
 }
 
@@ -185,7 +181,6 @@ fn stats() -> &'static str {
 "mcgate_server_error_answers_total":[{"server":"\"a\\:1?","value":31}],
 "mcgate_server_call_seconds":{"le":[{"server":"\"a\\:1?","le":"0.0001","value":10},{"server":"\"a\\:1?","le":"+Inf","value":18}],"sum":[{"server":"\"a\\:1?","value":3.004050}],"n":[{"server":"\"a\\:1?","value":18}]},
 "mcgate_scrapes_total":17,
-"mcgate_unshown_total":[{"why":"no_memory","value":69},{"why":"no_room","value":72}],
 "mcgate_config_last_refused":[{"line":"reload refused: too many places","value":1700000000.028}]}
 "#
 }
@@ -311,10 +306,6 @@ fn numbers(alloc: Global) -> Result<Numbers, AllocError> {
             unplaced: 67,
         },
         servers: servers(alloc)?,
-        unshown: UnshownNumbers {
-            no_memory: 69,
-            no_room: 72,
-        },
         scrapes: 17,
     })
 }

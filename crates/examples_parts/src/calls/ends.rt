@@ -160,10 +160,12 @@ impl WireEnd {
 
     // All that is held is cut off, and held again without so many of its first bytes.
     fn hold_again(&mut self, count: usize) -> Result<(), AllocError> {
-        let held = &mut self.conn.held;
-        let cut = held.freeze_to(held.len())?;
+        let len = self.conn.held.len();
+        self.conn.make_again(len.saturating_add(4))?;
+        let cut = self.conn.held.freeze_to(len)?;
         let rest = cut.as_slice().get(count..).unwrap_or(b"".as_slice());
-        self.conn.hold_again(rest, 4)
+        self.conn.hold_again(rest);
+        Ok(())
     }
 
     // The far end gives these bytes.

@@ -7,6 +7,7 @@ use examples_tables::playing::{Stage, cut, first_line, plain, play_lines, shown}
 use gate_check::judge;
 use mc_types::Dialect;
 use route_json::read_config;
+use serve_links::WaitLine;
 use serve_links::calls::{Left, LinkCalls, Next, SentCall};
 use std::alloc::Global;
 use std::test::Fail;
@@ -45,7 +46,17 @@ answer VA 1 kb f5\r\nx\r\n => client 0 by 15
 counts => 2 in 1000101: 1 0 0 0 0 0 0 0 0 0 1, 0 failed
 poll => did
 poll => did
-output => END\r\nVALUE b 5 1\r\nx\r\nEND\r\n"
+output => END\r\nVALUE b 5 1\r\nx\r\nEND\r\n
+
+A call that waits first goes out before one that waited longer.
+feed get a\r\nget b\r\n
+go => none
+wait => 1 waits
+first => 2 wait
+go => sent
+go => sent
+go => none
+asked => get b\r\nget a\r\n"
 }
 
 const LIMITS: CoreLimits = CoreLimits {
@@ -69,12 +80,13 @@ fn core(alloc: Global) -> Result<ServedCore, Fail> {
     core_by(alloc, text.as_str())
 }
 
-// A core with client 0, the calls of its server that are out, and what the server was asked.
+// A core with client 0, the calls of its server that are out, those that wait, and what the server was asked.
 #[derive(Drop)]
 struct Link {
     alloc: Global,
     core: ServedCore,
     calls: LinkCalls,
+    waiting: WaitLine,
     asked: SendBuffer,
 }
 
@@ -83,6 +95,7 @@ fn make_link(alloc: Global) -> Result<Link, Fail> {
         alloc,
         core: core(alloc)?,
         calls: LinkCalls::new(alloc),
+        waiting: WaitLine::new(alloc)?,
         asked: SendBuffer::new(alloc),
     };
     link.open()?;
@@ -100,6 +113,18 @@ fn dialect_of(word: &str) -> Dialect {
     match word {
         "meta" => Dialect::Meta,
         _ => Dialect::Classic,
+    }
+}
+
+// The call of client 0 that this ticket is of.
+fn call_of(ticket: Ticket, dialect: Dialect) -> SentCall {
+    SentCall {
+        ticket,
+        client: 0,
+        since: 7,
+        paced: 7,
+        bulk: 0,
+        dialect,
     }
 }
 
@@ -135,15 +160,7 @@ impl Link {
         }
     }
 
-    fn send(&mut self, ticket: Ticket, dialect: Dialect) -> &'static str {
-        let call = SentCall {
-            ticket,
-            client: 0,
-            since: 7,
-            paced: 7,
-            bulk: 0,
-            dialect,
-        };
+    fn send(&mut self, call: SentCall) -> &'static str {
         match self.calls.begin(call, 7_000, &mut self.asked) {
             Ok(()) => "sent",
             Err(_call) => "not sent",
@@ -153,7 +170,37 @@ impl Link {
     // The client's next call goes out.
     fn call(&mut self, dialect: Dialect) -> &'static str {
         match self.core.poll(0) {
-            Ok(Poll::Call(ticket)) => self.send(ticket, dialect),
+            Ok(Poll::Call(ticket)) => self.send(call_of(ticket, dialect)),
+            _ => "no call",
+        }
+    }
+
+    // The first call that waits goes out.
+    fn go(&mut self) -> &'static str {
+        match self.waiting.pop_front() {
+            Some(call) => self.send(call),
+            None => "none",
+        }
+    }
+
+    // The call waits, before all others or behind them: how many do then.
+    fn let_wait(&mut self, is_first: bool, call: SentCall) -> &'static str {
+        let waits = if is_first {
+            self.waiting.push_front(call)
+        } else {
+            self.waiting.push_back(call)
+        };
+        match (waits, self.waiting.len()) {
+            (Ok(()), 1) => "1 waits",
+            (Ok(()), 2) => "2 wait",
+            _ => "given back",
+        }
+    }
+
+    // The client's next call waits.
+    fn wait(&mut self, is_first: bool) -> &'static str {
+        match self.core.poll(0) {
+            Ok(Poll::Call(ticket)) => self.let_wait(is_first, call_of(ticket, Dialect::Classic)),
             _ => "no call",
         }
     }
@@ -209,6 +256,9 @@ impl Link {
         match verb {
             "feed" => self.feed(text),
             "call" => Ok(self.call(dialect_of(text))),
+            "wait" => Ok(self.wait(false)),
+            "first" => Ok(self.wait(true)),
+            "go" => Ok(self.go()),
             "poll" => Ok(self.poll()),
             "came" => Ok(self.come(text)),
             _ => Err("no such event")?,

@@ -3,7 +3,6 @@
 
 use crate::wires::peers::Peers;
 use crate::wires::scripts::bytes_of;
-use core_accepted::Unshown;
 use examples_tables::configs::with_configs;
 use examples_tables::playing::{Stage, cut, first_line, play_lines, shown, yes_or_no};
 use gate_check::{Accepted, judge};
@@ -18,16 +17,10 @@ use std::mem;
 use std::test::Fail;
 use std::time::Duration;
 
-// What nothing shows, by its names.
-const UNSHOWN: [(Unshown, &str); 2] = [
-    (Unshown::NoMemory, "no_memory"),
-    (Unshown::NoRoom, "no_room"),
-];
-
 // Far ends have names that are numbers. `peer` begins the script of one, which then calls at a time or answers the next connection to a
 // host. `proxy` looks up the servers of its configuration and begins. `news` are those since they were asked for last. `times` are how many
 // commands ended in how many microseconds, and how many of these took how long. `gone` are how many clients have gone for what, `unsent` how many
-// calls of a server have failed that never went out, `unshown` how often that was for what nothing shows, and `errors` how many it answered by an error.
+// calls of a server have failed that never went out, and `errors` how many it answered by an error.
 fn texts() -> &'static str {
     r"Bytes come cut anywhere, and go out by the piece.
 host 127.0.0.1:5001
@@ -182,7 +175,6 @@ taken 1 => SERVER_ERROR call failed\r\nSERVER_ERROR call failed\r\nSERVER_ERROR 
 taken 2 => SERVER_ERROR call failed\r\n
 taken 9 => get e\r\n
 unsent 0 => 2
-unshown => nothing
 
 A client quits behind replies that it takes slowly: it gets them all, and then the connection is closed.
 host 127.0.0.1:5001
@@ -244,7 +236,6 @@ open 9 => yes
 taken 9 => get a\r\nget b\r\nget d\r\n
 news => server 0: connected; server 0: late: a call took too long; server 0: back
 unsent 0 => 1
-unshown => nothing
 
 All calls that are out fail when one is late, and all of their answers have to come, however they are cut.
 host 127.0.0.1:5001
@@ -384,7 +375,6 @@ taken 8 => get a\r\nget b\r\n
 taken 9 => get e\r\n
 news => server 0: connected; server 0: failed: it sent what is no answer to the oldest call, 1 in a row; server 0: back
 unsent 0 => 2
-unshown => nothing
 
 The end of a connection that doesn't come, and late answers that don't: with a bound both are given up, and calls go to a new connection.
 host 127.0.0.1:5001
@@ -1406,23 +1396,6 @@ impl Scripted<'_> {
         Ok(format!(in self.rt.alloc(); "{count}")?)
     }
 
-    // How often something was done for what nothing shows.
-    fn unshown(&mut self) -> Result<String, Fail> {
-        let alloc = self.rt.alloc();
-        let tally = self.proxy()?.core_tally();
-        let mut text = String::new(alloc);
-        for (why, name) in UNSHOWN {
-            let count = tally.unshown(why);
-            if count > 0 {
-                push_count(alloc, &mut text, count, name)?;
-            }
-        }
-        if text.is_empty() {
-            text.push_str("nothing")?;
-        }
-        Ok(text)
-    }
-
     // How many calls of the server of this number were answered by an error.
     fn errors(&mut self, text: &str) -> Result<String, Fail> {
         let count = match self.proxy()?.sockets.link(text.parse::<usize>()?) {
@@ -1482,7 +1455,6 @@ impl Stage for Scripted<'_> {
             "times" => self.times(),
             "gone" => self.gone(),
             "unsent" => self.unsent(text),
-            "unshown" => self.unshown(),
             "errors" => self.errors(text),
             _ => {
                 self.set(verb, text)?;

@@ -65,7 +65,7 @@ pub enum Left {
     Begun,
     /// What begins no answer to that call, or what no call asked for.
     NoAnswer,
-    /// What can't be read or kept, as memory was refused for that.
+    /// What couldn't be read, as memory was refused for that: it may be read again.
     NoMemory,
 }
 

@@ -1,9 +1,9 @@
 //! What is held of a connection and what is to be sent over it: a read goes after what is held, a write takes from the front of what is
 //! to be sent.
 
-ghost use Rattle.std.specs.Prelude.{◌≡◌, false, ◌↔◌, ◌<◌, ◌≤◌, ◌==◌, ◌++◌, ◌||◌, [], length, drop, min, IsTrue, IfOk, OnOk, OnErr, MatchResult};
+ghost use Rattle.std.specs.Prelude.{◌≡◌, false, ◌↔◌, ◌+◌, ◌<◌, ◌≤◌, ◌==◌, ◌++◌, ◌||◌, [], length, drop, min, IsTrue, IfOk, OnOk, OnErr, MatchResult};
 ghost use Rattle.wire_parts.specs.Sending.{bytes_of};
-ghost use Rattle.serve_wire.specs.Ends.{ReadsConnection, Sends, StaysReadable, StaysWritable};
+ghost use Rattle.serve_wire.specs.Ends.{HasRoomAgain, HoldsAnew, ReadsConnection, Sends, StaysReadable, StaysWritable};
 
 use crate::{ReadOutcome, Ready, Wire, WriteOutcome};
 use bytes::BytesMut;
@@ -337,27 +337,38 @@ impl Conn {
         self.use_held(count);
     }
 
-    /// These bytes, which were cut off from what was held, are held again in front of it, with room for so many bytes after them. They are copied into
-    /// the other buffer, so that what else was cut off may share this one: its room is used again once that is gone.
-    ///
-    /// The only error is running out of memory; then what is held is as it was.
+    /// The other buffer has room for so many bytes, and nothing stands in it: what is cut off of what is held can be held again then
+    /// ([`Conn::hold_again`]), whatever memory there is. What is held stays. The only error is running out of memory.
     ///
     /// Source: mcgate's own.
-    pub fn hold_again(&mut self, front: &[u8], room: usize) -> Result<(), AllocError>
-        ensures held { OnOk result (self.new.held.items ≡ front.now ++ self.old.held.items) }
-        ensures room { OnOk result (room ≤ self.new.held.spare) }
-        ensures err { OnErr result (self.new.held.items ≡ self.old.held.items) }
-        ensures rest { self.new ≡ record self.old { held = self.new.held; other = self.new.other; is_cut = self.new.is_cut } }
+    pub fn make_again(&mut self, room: usize) -> Result<(), AllocError>
+        ensures ok { OnOk result (HasRoomAgain room self.new) }
+        ensures rest { self.new ≡ record self.old { other = self.new.other; is_cut = self.new.is_cut } }
     {
-        let len = front.len().saturating_add(self.held.len());
-        empty_for(&mut self.other, len.saturating_add(room))?;
-        self.other.extend_from_slice(front)?;
-        self.other.extend_from_slice(self.held.as_slice())?;
-        // This takes no memory: the room is there, as a sum that was cut at the largest number is refused above.
-        self.other.reserve(room)?;
+        if !self.may_cut() {
+            self.other = BytesMut::new(*self.other.allocator());
+            self.is_cut = false;
+        }
+        empty_for(&mut self.other, room)
+    }
+
+    /// These bytes, which were cut off from what was held, are held again in front of it. They are copied into the other buffer, in which room was made for
+    /// them ([`Conn::make_again`]), so that what else was cut off may share this one: its room is used again once that is gone. It takes no memory.
+    ///
+    /// Source: mcgate's own.
+    pub fn hold_again(&mut self, front: &[u8])
+        requires { HasRoomAgain (length front.now + length self.old.held.items) self.old }
+        ensures held { self.new.held.items ≡ front.now ++ self.old.held.items }
+        ensures rest { HoldsAnew self.old self.new }
+    {
+        if self.other.extend_from_slice(front).is_err() {
+            unreachable!();
+        }
+        if self.other.extend_from_slice(self.held.as_slice()).is_err() {
+            unreachable!();
+        }
         mem::swap(&mut self.held, &mut self.other);
         self.is_cut = true;
-        Ok(())
     }
 
     /// Buffers in which nothing stands give their room back, where it is more than so many bytes.

@@ -10,7 +10,7 @@ pub returns-clause-core : goal.returns-clause-core
 returns-clause-core c = then c.fail_sent.ensures.core c.fail_waiting.ensures.core
 
 pub returns-clause-all : goal.returns-clause-all
-returns-clause-all c = all_then c.args.link.now.calls.sent.items c.args.link.now.waiting.items c.args.core.now c.fail_sent.new.core c.fail_waiting.new.core c.fail_sent.ensures.all c.fail_waiting.ensures.all
+returns-clause-all c = all_then c.args.link.now.calls.sent.items c.args.link.now.waiting c.args.core.now c.fail_sent.new.core c.fail_waiting.new.core c.fail_sent.ensures.all c.fail_waiting.ensures.all
 
 pub returns-clause-ends : goal.returns-clause-ends
 returns-clause-ends c = keeps_twice c.args.clients.now c.fail_sent.new.clients c.fail_waiting.new.clients c.fail_sent.ensures.ends c.fail_waiting.ensures.ends

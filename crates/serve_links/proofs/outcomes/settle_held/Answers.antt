@@ -1,27 +1,14 @@
-use Rattle.std.proofs.Common.{◌≡◌, ◌≢◌, List, ℕ, drop, Option, Some, refl, sym, ap, ◌∙◌, subst}
+use Rattle.std.proofs.Common.{◌≡◌, List, ℕ, drop, refl, sym, ap, ◌∙◌, subst}
 use Rattle.serve_clients.specs.declared.clients.Clients.{Clients}
 use Rattle.serve_wire.specs.declared.conn.conn.Conn.{Conn}
-use Rattle.serve_links.specs.declared.calls.calls.Left.{Left}
-use Rattle.serve_links.specs.declared.calls.calls.Left.TheVariants as lefts
 use Rattle.serve_wire.specs.Ends.{HoldsAnew}
 use Rattle.serve_clients.specs.Agrees.{KeepsEnds}
 use Rattle.serve_wire.proofs.Anew.{anew_held, anew_twice}
 use Rattle.serve_clients.proofs.Agreeing.{keeps_none, keeps_twice}
 use Rattle.serve_links.proofs.Walked.{still, then}
-use Rattle.serve_links.proofs.Leaving.{none, both, between, none_front, front_then, front_to}
+use Rattle.serve_links.proofs.Leaving.{none, both, between}
 use Rattle.serve_links.proofs.outcomes.settle_held.Goals.{in-Left, in-Long, in-Large}
 use Rattle.serve_links.proofs.outcomes.settle_held.Goals as goal
-
--- what is left isn't what memory was refused for
-not_lost : (all one : Option Left) (left told : Left) → told ≢ lefts.NoMemory → told ≡ left → all ≡ Some left → all ≡ one → one ≢ Some lefts.NoMemory
-not_lost all one left told kept tells is same lost = kept (tells ∙ same_left (sym is ∙ same ∙ lost))
-  where
-    same_left : {a b : Left} → Some a ≡ Some b → a ≡ b
-    same_left e = cc
-
--- or nothing is left
-never_lost : (all one : Option Left) → ((left : Left) → all ≡ Some left → ⊥) → all ≡ one → one ≢ Some lefts.NoMemory
-never_lost all one none same lost = none lefts.NoMemory (same ∙ lost)
 
 pub loop-init : goal.loop-init
 loop-init c = record {
@@ -48,13 +35,13 @@ loop-preserved c =
       }
       | in-Long w ↦ record {
         core = then (then core w.take_long-left.ensures.core) (still w.core-is);
-        settled = both (both here (w.take_long-left.ensures.settled (never_lost c.match-stop.left w.take_long-left.result c.in_default.not-Some w.left-is))) (none (ap (λ q. q.sent.items) w.calls-is) (ap (λ z. z.held.items) w.conn-is) w.core-is);
+        settled = both (both here w.take_long-left.ensures.settled) (none (ap (λ q. q.sent.items) w.calls-is) (ap (λ z. z.held.items) w.conn-is) w.core-is);
         ends = subst (λ (z : Clients). KeepsEnds c.args.clients.now z) (sym w.clients-is) (keeps_twice c.args.clients.now c.settle_in-used.new.clients w.take_long-left.new.clients ends w.take_long-left.ensures.ends);
         rest = subst (λ (z : Conn). HoldsAnew c.args.conn.now z) (sym w.conn-is) (anew_twice c.args.conn.now c.use_up.new.self w.take_long-left.new.conn anew w.take_long-left.ensures.rest);
       }
       | in-Large w ↦ record {
         core = then (then core w.take_large-left.ensures.core) (still w.core-is);
-        settled = both (both here (w.take_large-left.ensures.settled (never_lost c.match-stop.left w.take_large-left.result c.in_default.not-Some w.left-is))) (none (ap (λ q. q.sent.items) w.calls-is) (ap (λ z. z.held.items) w.conn-is) w.core-is);
+        settled = both (both here w.take_large-left.ensures.settled) (none (ap (λ q. q.sent.items) w.calls-is) (ap (λ z. z.held.items) w.conn-is) w.core-is);
         ends = subst (λ (z : Clients). KeepsEnds c.args.clients.now z) (sym w.clients-is) (keeps_twice c.args.clients.now c.settle_in-used.new.clients w.take_large-left.new.clients ends w.take_large-left.ensures.ends);
         rest = subst (λ (z : Conn). HoldsAnew c.args.conn.now z) (sym w.conn-is) (anew_twice c.args.conn.now c.use_up.new.self w.take_large-left.new.conn anew w.take_large-left.ensures.rest);
       }
@@ -74,21 +61,10 @@ returns-in-Some-clause-settled c =
     let same : c.loop.conn.held.items ≡ c.copied.result = cc in
     let rest = c.use_up.ensures.held ∙ ap (λ (l : List ℕ). drop c.settle_in-used.result.0 l) same in
     let here = both c.loop.invariant.settled (between same rest c.settle_in-used.ensures.settled) in
-    λ kept. elim c.match-stop.branch [
-      | in-Left w ↦ both here (none (ap (λ q. q.sent.items) w.calls-is) (ap (λ z. z.held.items) w.conn-is) w.core-is)
-      | in-Long w ↦ both (both here (w.take_long-left.ensures.settled (not_lost c.match-stop.left w.take_long-left.result c.in-Some.left c.told.result.left kept c.told.ensures.left c.in-Some.is w.left-is))) (none (ap (λ q. q.sent.items) w.calls-is) (ap (λ z. z.held.items) w.conn-is) w.core-is)
-      | in-Large w ↦ both (both here (w.take_large-left.ensures.settled (not_lost c.match-stop.left w.take_large-left.result c.in-Some.left c.told.result.left kept c.told.ensures.left c.in-Some.is w.left-is))) (none (ap (λ q. q.sent.items) w.calls-is) (ap (λ z. z.held.items) w.conn-is) w.core-is)
-    ]
-
-pub returns-in-Some-clause-front : goal.returns-in-Some-clause-front
-returns-in-Some-clause-front c =
-    let same : c.loop.conn.held.items ≡ c.copied.result = cc in
-    let rest = c.use_up.ensures.held ∙ ap (λ (l : List ℕ). drop c.settle_in-used.result.0 l) same in
-    let here = both c.loop.invariant.settled (between same rest c.settle_in-used.ensures.settled) in
     elim c.match-stop.branch [
-      | in-Left w ↦ front_then here (none_front (ap (λ q. q.sent.items) w.calls-is) w.core-is)
-      | in-Long w ↦ front_then here (front_to (ap (λ q. q.sent.items) w.calls-is) w.core-is w.take_long-left.ensures.front)
-      | in-Large w ↦ front_then here (front_to (ap (λ q. q.sent.items) w.calls-is) w.core-is w.take_large-left.ensures.front)
+      | in-Left w ↦ both here (none (ap (λ q. q.sent.items) w.calls-is) (ap (λ z. z.held.items) w.conn-is) w.core-is)
+      | in-Long w ↦ both (both here w.take_long-left.ensures.settled) (none (ap (λ q. q.sent.items) w.calls-is) (ap (λ z. z.held.items) w.conn-is) w.core-is)
+      | in-Large w ↦ both (both here w.take_large-left.ensures.settled) (none (ap (λ q. q.sent.items) w.calls-is) (ap (λ z. z.held.items) w.conn-is) w.core-is)
     ]
 
 pub returns-in-Some-clause-ends : goal.returns-in-Some-clause-ends

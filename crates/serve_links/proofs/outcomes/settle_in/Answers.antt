@@ -5,7 +5,7 @@ use Rattle.serve_links.specs.declared.calls.calls.Next.TheVariants as nexts
 use Rattle.serve_links.specs.declared.outcomes.HeldStop.TheVariants as stops
 use Rattle.serve_clients.proofs.Agreeing.{keeps_none, keeps_twice}
 use Rattle.serve_links.proofs.Walked.{still, then, by_settle_next}
-use Rattle.serve_links.proofs.Leaving.{settles_as, awaited, some_held, foreign, none, both, one, drop_few, front_then, front_next}
+use Rattle.serve_links.proofs.Leaving.{settles_as, awaited, some_held, foreign, none, both, one, drop_few}
 use Rattle.serve_links.proofs.outcomes.settle_in.Goals as goal
 
 same_left : {a b : Left} → stops.Left a ≡ stops.Left b → a ≡ b
@@ -50,11 +50,3 @@ returns-in-Left-clause-foreign c =
     λ is. foreign c.loop.calls.sent.items (drop c.loop.used bytes) c.loop.core c.in-Left.left c.settle_next.new.self.sent.items c.settle_next.new.core
     (λ none. some_held _ (sym c.is_empty.ensures ∙ c.if-is_empty.false) (c.bytes.ensures ∙ sym same ∙ none)) (same_left is)
     (settles_as c.loop.calls.sent.items c.after-rest.result (drop c.loop.used bytes) c.loop.core (nexts.Left c.in-Left.left) c.settle_next.new.self.sent.items c.settle_next.new.core same c.in-Left.ensures.settles)
-
-pub returns-in-Left-clause-front : goal.returns-in-Left-clause-front
-returns-in-Left-clause-front c =
-    let bytes = c.args.received.now in
-    let few = drop_min c.loop.used bytes in
-    let same : drop c.loop.used bytes ≡ c.after-rest.result = cc in
-    front_then c.loop.invariant.settled (front_next c.loop.calls.sent.items (drop c.loop.used bytes) c.loop.core c.settle_next.result c.settle_next.new.self.sent.items c.settle_next.new.core
-    (settles_as c.loop.calls.sent.items c.after-rest.result (drop c.loop.used bytes) c.loop.core c.settle_next.result c.settle_next.new.self.sent.items c.settle_next.new.core same c.settle_next.ensures.settles))

@@ -4,8 +4,8 @@ use Rattle.serve_links.specs.declared.calls.calls.Left.{Left}
 use Rattle.serve_links.specs.Story.{line_of}
 use Rattle.serve_links.proofs.LinkGoes.{line_then, line_learns, line_keeps}
 use Rattle.serve_links.proofs.Foreign.{foreign_goes}
-use Rattle.serve_proxy.proofs.Linking.{line_vain, line_may_lose}
-use Rattle.serve_proxy.proofs.GivenUp.{no_room_goes, vain_goes}
+use Rattle.serve_proxy.proofs.Linking.{line_vain}
+use Rattle.serve_proxy.proofs.GivenUp.{goes_as, vain_goes}
 use Rattle.serve_proxy.proofs.answers.take_said.Goals as goal
 
 pub returns-then-not-learn : goal.returns-then-not-learn
@@ -38,7 +38,7 @@ returns-in-NoAnswer c = record {
 
 pub returns-in-NoMemory : goal.returns-in-NoMemory
 returns-in-NoMemory c = record {
-  goes = λ at h. no_room_goes (line_may_lose (line_then (line_learns c.args.link.now c.learn.new.self c.learn.result c.learn.ensures.learns) (c.throw_late.ensures.goes at c.args.core.now h)));
+  goes = λ at h. goes_as c.put_off.ensures.none (line_then (line_then (line_learns c.args.link.now c.learn.new.self c.learn.result c.learn.ensures.learns) (c.throw_late.ensures.goes at c.args.core.now h)) (line_keeps (λ d. untouched d h) c.put_off.ensures.line));
   ends = λ j. refl;
 }
 

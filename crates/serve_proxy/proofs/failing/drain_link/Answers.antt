@@ -30,7 +30,7 @@ returns-in-Some g c =
       ends = λ why ending. and_then
           (line_given_up why links c.args.at x y c.in-Some.ensures.item.3.0 c.in-Some.ensures.value
           (line_then
-          (line_drains why ending x m c.shut_if_any.ensures c.drain-drained.ensures.conn c.drain-drained.ensures.drains c.drain-drained.ensures.draining (same_server x m (ap (λ t. t.items) c.drain-drained.ensures.text) c.drain-drained.ensures.limits) (ap (λ w. w.items) c.drain-drained.ensures.waiting) (ap (λ (k : LinkCalls). k.sent.items) c.drain-drained.ensures.calls) c.drain-drained.ensures.lost)
+          (line_drains why ending x m c.shut_if_any.ensures c.drain-drained.ensures.conn c.drain-drained.ensures.drains c.drain-drained.ensures.draining (same_server x m (ap (λ t. t.items) c.drain-drained.ensures.text) c.drain-drained.ensures.limits) c.drain-drained.ensures.waiting (ap (λ (k : LinkCalls). k.sent.items) c.drain-drained.ensures.calls) c.drain-drained.ensures.lost)
           (line_fails m y c.fail_all.ensures.first.0 c.fail_all.ensures.first.1 c.fail_all.ensures.first.2 c.drain-drained.ensures.conn c.fail_all.ensures.closed c.fail_all.ensures.draining (same_server m y (ap (λ t. t.items) c.fail_all.ensures.text) c.fail_all.ensures.limits) c.fail_all.ensures.lost)))
           (stays c.fail_all.new.core (stay_clients _ _ _ _ c.fail_all.ensures.ends));
     }

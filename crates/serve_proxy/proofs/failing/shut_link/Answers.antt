@@ -31,7 +31,7 @@ returns-in-Some g c =
       ends = λ why apart. and_then
           (line_given_up why links c.args.at x y c.in-Some.ensures.item.3.0 c.in-Some.ensures.value
           (line_then
-          (line_closes why apart x m c.close-closed.result c.close-closed.ensures.number c.close_if_any.ensures.some c.close_if_any.ensures.none c.close-closed.ensures.conn c.close-closed.ensures.draining (same_server x m (ap (λ t. t.items) c.close-closed.ensures.text) c.close-closed.ensures.limits) (ap (λ w. w.items) c.close-closed.ensures.waiting) (ap (λ (k : LinkCalls). k.sent.items) c.close-closed.ensures.calls) c.close-closed.ensures.lost)
+          (line_closes why apart x m c.close-closed.result c.close-closed.ensures.number c.close_if_any.ensures.some c.close_if_any.ensures.none c.close-closed.ensures.conn c.close-closed.ensures.draining (same_server x m (ap (λ t. t.items) c.close-closed.ensures.text) c.close-closed.ensures.limits) c.close-closed.ensures.waiting (ap (λ (k : LinkCalls). k.sent.items) c.close-closed.ensures.calls) c.close-closed.ensures.lost)
           (line_fails m y c.fail_all.ensures.first.0 c.fail_all.ensures.first.1 c.fail_all.ensures.first.2 c.close-closed.ensures.conn c.fail_all.ensures.closed c.fail_all.ensures.draining (same_server m y (ap (λ t. t.items) c.fail_all.ensures.text) c.fail_all.ensures.limits) c.fail_all.ensures.lost)))
           (stays c.fail_all.new.core (stay_clients _ _ _ _ c.fail_all.ensures.ends));
       down = at_set IsDown links c.args.at y c.fail_all.ensures.down;

@@ -10,7 +10,7 @@ use Rattle.serve_proxy.proofs.links.begin.Goals as goal
 
 pub returns-in-Failed : goal.returns-in-Failed
 returns-in-Failed g c = record {
-  stands = let none = none_kept c.args.link.now.conn c.connect.new.self.conn c.requires c.in-Failed.ensures.opens.1.conn in line_opens_not c.args.at c.args.settings.now.server_dialect opening.Failed _ _ c.args.link.now c.connect.new.self c.close.new.self c.in-Failed.ensures.opens none c.close.ensures.conn (subst (λ (o : Option Conn). MatchOption o (c.close.new.self.draining ≡ c.connect.new.self.draining) (λ d. c.close.new.self.draining ≡ None)) none c.close.ensures.draining) (same_server c.connect.new.self c.close.new.self (ap (λ t. t.items) c.close.ensures.text) c.close.ensures.limits) (ap (λ w. w.items) c.close.ensures.waiting) (ap (λ (k : LinkCalls). k.sent.items) c.close.ensures.calls) (subst (λ (o : Option Conn). MatchOption o (c.close.new.self.lost ≡ c.connect.new.self.lost) (λ d. c.close.new.self.lost ≤ c.connect.new.self.lost + 1)) none c.close.ensures.lost);
+  stands = let none = none_kept c.args.link.now.conn c.connect.new.self.conn c.requires c.in-Failed.ensures.opens.1.conn in line_opens_not c.args.at c.args.settings.now.server_dialect opening.Failed _ _ c.args.link.now c.connect.new.self c.close.new.self c.in-Failed.ensures.opens none c.close.ensures.conn (subst (λ (o : Option Conn). MatchOption o (c.close.new.self.draining ≡ c.connect.new.self.draining) (λ d. c.close.new.self.draining ≡ None)) none c.close.ensures.draining) (same_server c.connect.new.self c.close.new.self (ap (λ t. t.items) c.close.ensures.text) c.close.ensures.limits) c.close.ensures.waiting (ap (λ (k : LinkCalls). k.sent.items) c.close.ensures.calls) (subst (λ (o : Option Conn). MatchOption o (c.close.new.self.lost ≡ c.connect.new.self.lost) (λ d. c.close.new.self.lost ≤ c.connect.new.self.lost + 1)) none c.close.ensures.lost);
   conn = λ begun. absurd (let no = begun in cc no);
   none = λ isnt. c.close.ensures.conn;
 }

@@ -25,6 +25,3 @@ returns-clause-servers c =
 
 pub returns-clause-unplaced : goal.returns-clause-unplaced
 returns-clause-unplaced c = stays_among _ _ _ c.in_ok-families.ensures.unplaced (one_more _ _ _ c.in_ok-push.ensures.items)
-
-pub returns-clause-unshown : goal.returns-clause-unshown
-returns-clause-unshown c = stays_among _ _ _ c.in_ok-families.ensures.unshown (one_more _ _ _ c.in_ok-push.ensures.items)
