@@ -1,5 +1,5 @@
 -- What is late by a clock. Source: mcgate's own.
-use Rattle.std.specs.Prelude.{◌≡◌, ◌≢◌, ◌⊎◌, ◌&&◌, ℕ, Bool, true, false, ◌+◌, ◌<◌, ◌≤◌, List, [], ◌++◌, Option, Some, None, slice_get}
+use Rattle.std.specs.Prelude.{◌≡◌, ◌≢◌, ◌⊎◌, ◌&&◌, ◌||◌, ℕ, Bool, true, false, ◌+◌, ◌<◌, ◌≤◌, List, [], ◌++◌, Option, Some, None, slice_get}
 use Rattle.std.specs.List.{Any}
 use Rattle.serve_wire.specs.declared.conn.conn.Conn.{Conn}
 use Rattle.serve_links.specs.declared.calls.calls.SentCall.{SentCall}
@@ -53,11 +53,15 @@ abbrev pub may_give : Option Conn → Bool
 may_give None = false
 may_give (Some conn) = conn.readable
 
--- once a clock showed this the system was asked for what has come over its connection, and all of it was read
-abbrev pub IsReadBy : (now : ℕ) → Link → Type 0
-IsReadBy now link = (now ≤ link.asked_at) × (may_give link.conn ≡ false)
+-- whether memory was refused for what came over its connection, and that is still to be read
+abbrev pub lacks_memory : Link → Bool
+lacks_memory link = link.is_starved || link.has_unread
 
--- of the link of this number, once a clock showed this, the system was asked for what has come over its connection, and all of it was read
+-- once a clock showed this the system was asked for what has come over its connection, and all of it was read for which memory was there
+abbrev pub IsReadBy : (now : ℕ) → Link → Type 0
+IsReadBy now link = (now ≤ link.asked_at) × ((may_give link.conn ≡ false) ⊎ (lacks_memory link ≡ true))
+
+-- of the link of this number, once a clock showed this, the system was asked for what has come over its connection, and all of it was read for which memory was there
 abbrev pub LinkIsRead : (at now : ℕ) → List Link → Type 0
 LinkIsRead at now links = (link : Link) × (slice_get links at ≡ Some link) × IsReadBy now link
 

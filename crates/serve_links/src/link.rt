@@ -4,7 +4,7 @@ ghost use Rattle.std.specs.Prelude.{◌≡◌, ℕ, ◌≢◌, ◌⊎◌, not, t
 ghost use Rattle.mc_types.specs.declared.ask.Dialect.TheVariants.{Classic};
 ghost use Rattle.serve_links.specs.Links.{IsDown, CallIsTaken, least_waiting, vain_cause};
 ghost use Rattle.serve_links.specs.Calls.{stores_first};
-ghost use Rattle.serve_links.specs.Lateness.{HasLate, awaits_store, AwaitsLate, IsUnready, IsConnectLate, IsReadBy, may_give};
+ghost use Rattle.serve_links.specs.Lateness.{HasLate, awaits_store, AwaitsLate, IsUnready, IsConnectLate, IsReadBy, may_give, lacks_memory};
 ghost use Rattle.wire_parts.specs.Sending.{bytes_of};
 ghost use Rattle.serve_links.specs.Dialects.{awaits_flush};
 ghost use Rattle.serve_links.specs.Talks.{HasWaited};
@@ -463,7 +463,9 @@ impl Link {
     }
 
     /// Whether memory was refused for what came over its connection, and that is still to be read.
-    pub fn lacks_memory(&self) -> bool {
+    pub fn lacks_memory(&self) -> bool
+        ensures { result ≡ lacks_memory self.now }
+    {
         self.is_starved || self.has_unread
     }
 
@@ -694,19 +696,26 @@ impl Link {
     /// Whether it has waited for something too long by now, so far as it was read: the system may not have been asked for what has come since.
     pub fn is_overdue(&self, now: u64, settings: &Settings) -> bool {
         match self.time_limit(settings) {
-            Some(limit) => limit < now && !self.may_have_more(),
+            Some(limit) => limit < now && self.is_read(),
             None => false,
         }
     }
 
-    // Whether all that has come over its connection by now was read.
+    /// Whether nothing more is to be read of it now: all that was told of was read for which memory was there.
+    pub fn is_read(&self) -> bool
+        ensures { result ≡ true → (may_give self.now.conn ≡ false) ⊎ (lacks_memory self.now ≡ true) }
+    {
+        self.lacks_memory() || !self.may_have_more()
+    }
+
+    // Whether all that has come over its connection by now was read for which memory was there.
     fn is_read_by(&self, now: u64) -> bool
         ensures { result ≡ true → IsReadBy now self.now }
     {
-        now <= self.asked_at && !self.may_have_more() && !self.has_unread
+        now <= self.asked_at && self.is_read()
     }
 
-    /// What it has waited for too long by now. It isn't late before all that has come over its connection by now was read.
+    /// What it has waited for too long by now. It isn't late before all that has come over its connection by now was read for which memory was there.
     pub fn lateness(&self, now: u64, settings: &Settings) -> Option<Lateness>
         ensures read { IsSome result → IsReadBy now self.now }
     {

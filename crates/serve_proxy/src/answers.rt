@@ -1,7 +1,8 @@
 //! Links are read, and whole answers settle the calls that are out.
 
-ghost use Rattle.std.specs.Prelude.{◌≡◌, ◌≢◌, ℕ, false, [], None, Some, IfSome};
+ghost use Rattle.std.specs.Prelude.{◌≡◌, ◌≢◌, ◌<◌, ℕ, false, [], None, Some, IfSome, IfOk, OnErr};
 ghost use Rattle.serve_clients.specs.Agrees.{KeepsEnds};
+ghost use Rattle.serve_wire.specs.Ends.{ReadsConnection};
 ghost use Rattle.serve_links.specs.Story.{line_of, HoldsMost};
 ghost use Rattle.serve_proxy.specs.Ends.{LineStandsUnless, LineGoesUnless, over_by, over_of, unless_full, AgreesUnless, Stay, GoAloneUnless, HoldsMostAt, AllFailOn, AllGoOn, AllGoUnless, AllGoFromUnless};
 
@@ -12,7 +13,11 @@ use core_accepted::ServedCore;
 use serve_clients::Clients;
 use serve_links::{Cause, KEPT_ROOM, Left, Link, MOST_HELD, settle_held, vain};
 use serve_wire::Wire;
-use serve_wire::conn::Got;
+use serve_wire::conn::{Conn, Got};
+use std::alloc::AllocError;
+
+// One read has room for so many bytes where memory is refused for more.
+const LEAST_READ: usize = 512;
 
 /// Links that are ready are read.
 pub fn read_links<W: Wire>(core: &mut ServedCore, sockets: &mut Sockets<W>)
@@ -262,6 +267,20 @@ fn unless_full(got: Got) -> Option<Got>
     }
 }
 
+// One read, into little room where memory is refused for so much.
+fn read_into<W: Wire>(conn: &mut Conn, wire: &mut W, room: usize) -> Result<Got, AllocError>
+    requires { 0 < room }
+    ensures ok { IfOk result (λ got. ReadsConnection conn.old.number conn.old.limits.held conn.old.held.items got conn.new.held.items (W.history wire.old) (W.history wire.new)) }
+    ensures err { OnErr result ((conn.new.held.items ≡ conn.old.held.items) × (W.history wire.new ≡ W.history wire.old)) }
+    ensures unsent { conn.new.unsent ≡ conn.old.unsent }
+    ensures number { conn.new.number ≡ conn.old.number }
+{
+    match conn.read_once(wire, room) {
+        Ok(got) => Ok(got),
+        Err(_) => conn.read_once(wire, LEAST_READ),
+    }
+}
+
 /// One read of the link, if something may have come over its connection: what it gave, if it was made. Where memory is refused for it it is made again later,
 /// and no call goes out before. `Got::Full` comes where [`MOST_HELD`] bytes or more are held.
 pub fn read_line<W: Wire>(link: &mut Link, wire: &mut W) -> Option<Got>
@@ -280,7 +299,7 @@ pub fn read_line<W: Wire>(link: &mut Link, wire: &mut W) -> Option<Got>
     if conn.held.len() >= MOST_HELD {
         return Some(Got::Full);
     }
-    match conn.read_once(wire, room) {
+    match read_into(conn, wire, room) {
         Ok(got) => {
             link.is_starved = false;
             unless_full(got)

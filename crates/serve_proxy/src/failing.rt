@@ -178,7 +178,7 @@ fn fail_sent<W: Wire>(core: &mut ServedCore, sockets: &mut Sockets<W>, at: usize
     }
 }
 
-// What has come over a link that is late is read, until it is late no longer or nothing more is there.
+// What has come over a link that is late is read, until it is late no longer or nothing more is there, or memory is refused for it.
 fn read_late<W: Wire>(core: &mut ServedCore, sockets: &mut Sockets<W>, at: usize)
     ensures ends { AllGoOn W.history core.old sockets.old core.new sockets.new }
 {
@@ -187,7 +187,7 @@ fn read_late<W: Wire>(core: &mut ServedCore, sockets: &mut Sockets<W>, at: usize
             return;
         }
         look_again(core, sockets, at);
-        if !sockets.links.may_have_more(at) {
+        if sockets.links.is_read(at) {
             return;
         }
     }

@@ -656,6 +656,14 @@ impl Links {
         }
     }
 
+    /// Whether nothing more is to be read of the link of this number now.
+    pub fn is_read(&self, at: usize) -> bool {
+        match self.all.get(at) {
+            Some(link) => link.is_read(),
+            None => true,
+        }
+    }
+
     /// Whether what the link holds is to be read again, as memory was refused for that.
     pub fn has_unread(&self, at: usize) -> bool {
         match self.all.get(at) {
@@ -856,7 +864,7 @@ impl Links {
         }
     }
 
-    /// What the link has waited for too long by now. It isn't late before all that has come over it by now was read.
+    /// What the link has waited for too long by now. It isn't late before all that has come over it by now was read for which memory was there.
     pub fn lateness(&self, at: usize, now: u64) -> Option<Lateness>
         ensures read { IsSome result → LinkIsRead at now self.now.all.items }
     {

@@ -28,6 +28,9 @@ pub const USUAL_MOST: usize = 1_073_741_824;
 // What is to be told is told once in so many milliseconds at most.
 const QUIET_MS: u64 = 1_000;
 
+// Where memory is refused for what servers send, one client is broken off in so many milliseconds.
+const SHORT_MS: u64 = 10;
+
 /// Since when clients take nothing of much that is to be sent to them.
 #[derive(Drop)]
 pub struct Stalls {
@@ -41,6 +44,8 @@ pub struct Stalls {
     pub is_scarce: bool,
     // Whether memory was refused for what a server sent.
     is_short: bool,
+    // Until when nobody is broken off for that again, in milliseconds.
+    short_until: u64,
     // Nobody has stalled before this time.
     late_from: Option<u64>,
     // How many were closed and not told of.
@@ -84,6 +89,7 @@ impl Stalls {
             share: SHARE,
             is_scarce: false,
             is_short: false,
+            short_until: 0,
             late_from: None,
             closed: 0,
             quiet_until: 0,
@@ -115,13 +121,17 @@ impl Stalls {
         self.is_short = self.is_short || is_so;
     }
 
-    // Whether memory was refused for what a server sent, since that was asked last.
-    fn was_short(&mut self) -> bool
-        ensures { self.new ≡ record self.old { is_short = false } }
+    // Whether memory was refused for what a server sent, since that was asked last, and some is held for clients: once in so many milliseconds at most,
+    // as what is let go for that takes its time.
+    fn was_short(&mut self, now: u64, is_any: bool) -> bool
+        ensures { self.new ≡ record self.old { is_short = false; short_until = self.new.short_until } }
     {
-        let is_short = self.is_short;
+        let was_short = self.is_short && is_any && self.short_until <= now;
         self.is_short = false;
-        is_short
+        if was_short {
+            self.short_until = now.saturating_add(SHORT_MS);
+        }
+        was_short
     }
 
     // Nobody has stalled before this time, either.
@@ -339,14 +349,15 @@ fn write_again<W: Wire>(core: &ServedCore, sockets: &mut Sockets<W>, id: usize)
 }
 
 impl<W: Wire> Sockets<W> {
-    // Whether more bytes than these are held for all clients, or memory was refused since that was asked last.
+    // Whether more bytes than these are held for all clients, or some are and memory was refused since that was asked last.
     fn has_too_much(&mut self, most: usize) -> bool
         ensures ends { Stay W.history self.old self.new }
         ensures bounded { result ≡ false → held_by_all self.old.clients ≤ most }
         ensures clients { self.new.clients ≡ self.old.clients }
     {
+        let is_any = self.clients.hold_more(0);
         let is_more = self.clients.hold_more(most);
-        self.stalls.was_short() || is_more
+        self.stalls.was_short(self.time, is_any) || is_more
     }
 
     // The client for which most bytes are held. There is none only where nobody is there.

@@ -51,12 +51,12 @@ returns-then-len-ge-MOST_HELD-clause-stands g c = λ at. line_stands at _ c.args
 
 pub returns-in-Ok : goal.returns-in-Ok
 returns-in-Ok g c = record {
-  stands = λ at. read_unless at _ _ c.args.link.now (record c.args.link.now { conn = Some c.read_once.new.self; is_starved = false }) c.in-Ok.got c.unless_full.result c.unless_full.ensures
-      (λ core. line_then (line_keeps {y = record c.args.link.now { is_starved = false }} (λ d. untouched d _) refl) (line_read at _ _ (record c.args.link.now { is_starved = false }) (record c.args.link.now { conn = Some c.read_once.new.self; is_starved = false }) c.in-Some.conn.now c.read_once.new.self _ c.in-Ok.got (sym c.in-Some.ensures.value) refl c.read_once.ensures.rest.0 (ap bytes_of c.read_once.ensures.unsent) c.in-Ok.ensures.ok core));
-  came = λ is. came_some _ _ _ c.in-Ok.got c.read_once.new.self.held.items _ _ (bytes_came c.in-Ok.got (sym c.unless_full.ensures ∙ is)) c.in-Ok.ensures.ok;
+  stands = λ at. read_unless at _ _ c.args.link.now (record c.args.link.now { conn = Some c.read_into.new.conn; is_starved = false }) c.in-Ok.got c.unless_full.result c.unless_full.ensures
+      (λ core. line_then (line_keeps {y = record c.args.link.now { is_starved = false }} (λ d. untouched d _) refl) (line_read at _ _ (record c.args.link.now { is_starved = false }) (record c.args.link.now { conn = Some c.read_into.new.conn; is_starved = false }) c.in-Some.conn.now c.read_into.new.conn _ c.in-Ok.got (sym c.in-Some.ensures.value) refl c.read_into.ensures.number (ap bytes_of c.read_into.ensures.unsent) c.in-Ok.ensures.ok core));
+  came = λ is. came_some _ _ _ c.in-Ok.got c.read_into.new.conn.held.items _ _ (bytes_came c.in-Ok.got (sym c.unless_full.ensures ∙ is)) c.in-Ok.ensures.ok;
   full = λ is. absurd (never_full c.in-Ok.got (sym c.unless_full.ensures ∙ is));
   rest = refl;
 }
 
 pub returns-in-Err-clause-stands : goal.returns-in-Err-clause-stands
-returns-in-Err-clause-stands g c = λ at. λ core. line_then (line_keeps {y = record c.args.link.now { is_starved = true }} (λ d. untouched d _) refl) (line_unread at _ _ (record c.args.link.now { is_starved = true }) (record c.args.link.now { conn = Some c.read_once.new.self; is_starved = true }) c.in-Some.conn.now c.read_once.new.self (sym c.in-Some.ensures.value) refl c.read_once.ensures.rest.0 (ap bytes_of c.read_once.ensures.unsent) (came c.read_once.result _ _ _ _ _ _ c.read_once.ensures.ok c.read_once.ensures.err) c.in-Err.ensures.err.1 core)
+returns-in-Err-clause-stands g c = λ at. λ core. line_then (line_keeps {y = record c.args.link.now { is_starved = true }} (λ d. untouched d _) refl) (line_unread at _ _ (record c.args.link.now { is_starved = true }) (record c.args.link.now { conn = Some c.read_into.new.conn; is_starved = true }) c.in-Some.conn.now c.read_into.new.conn (sym c.in-Some.ensures.value) refl c.read_into.ensures.number (ap bytes_of c.read_into.ensures.unsent) (came c.read_into.result _ _ _ _ _ _ c.read_into.ensures.ok c.read_into.ensures.err) c.in-Err.ensures.err.1 core)

@@ -10,8 +10,8 @@ loop-preserved g c = and_then c.loop.invariant c.look_again.ensures.ends
 pub returns-then-not-is_overdue : goal.returns-then-not-is_overdue
 returns-then-not-is_overdue g c = record { ends = c.loop.invariant }
 
-pub returns-then-not-may_have_more : goal.returns-then-not-may_have_more
-returns-then-not-may_have_more g c = record { ends = and_then c.loop.invariant c.look_again.ensures.ends }
+pub returns-then-is_read : goal.returns-then-is_read
+returns-then-is_read g c = record { ends = and_then c.loop.invariant c.look_again.ensures.ends }
 
 pub returns : goal.returns
 returns g c = record { ends = c.loop.invariant }
