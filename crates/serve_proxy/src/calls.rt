@@ -79,12 +79,11 @@ impl<W: Wire> Sockets<W> {
             .bulk_of(at, ticket.ask.get(), self.clients.expects(id))
     }
 
-    // A call of this client waits for its server. What came of that and is still to be read, as memory was refused for it, is read soon.
+    // A call of this client waits for its server.
     fn note_waits(&mut self, at: usize, client: usize)
         ensures ends { Stay W.history self.old self.new }
     {
         self.links.note_limit(at);
-        self.links.mark_rest(at);
         self.clients.mark_waiting(client);
     }
 }
