@@ -20,6 +20,18 @@ needs() {
 }
 needs memcached timeout
 
+# shipped NAME: where a file of packaging/ is, in the repository or where a release was unpacked.
+shipped() {
+    local file root=$top/../../..
+    for file in "$top/packaging/$1" "$root/bin/$1" "$root/lib/systemd/system/$1" "$root/share/mcgate/$1"; do
+        if [ -e "$file" ]; then
+            readlink -f "$file"
+            return
+        fi
+    done
+    return 1
+}
+
 room=$(mktemp -d)
 declare -A server_of=()
 proxy=
@@ -114,7 +126,7 @@ serve() {
     listen=$(sed -n 's/^mcgate: serving .* on 127\.0\.0\.1:\([0-9]*\), .*/\1/p' "$room/err")
     [ -n "$listen" ] || fail "mcgate doesn't serve $1: $(cat "$room/out")"
 }
-serves_or_ended() { grep -q '^mcgate: serving ' "$room/err" || ! kill -0 "$proxy" 2>/dev/null; }
+serves_or_ended() { grep -q '^mcgate: serving .*, generation [0-9]' "$room/err" || ! kill -0 "$proxy" 2>/dev/null; }
 
 # It ends at once; what it had sent has reached its servers a moment later.
 stop_mcgate() {

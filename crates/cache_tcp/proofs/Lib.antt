@@ -1,12 +1,7 @@
-pub mod ConnectionJoined
-pub mod Closing
 pub mod Runs
-pub mod Whole
 pub mod Keys
 pub mod Fronts
 pub mod Exits
 pub mod Oldest
-pub mod Determined
-pub mod ServedAlike
 pub mod Touching
 pub mod Asking

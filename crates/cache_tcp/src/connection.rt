@@ -1,6 +1,5 @@
 //! One connection of a memcached cache server: what a client sends, in any pieces, is answered by a cache.
 
-pub mod laws;
 mod reply;
 mod serve;
 pub mod served;

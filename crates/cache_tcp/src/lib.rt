@@ -9,7 +9,6 @@ pub mod client;
 pub mod clock;
 pub mod connection;
 mod end;
-pub mod meta_law;
 pub mod room;
 mod settings;
 

@@ -165,7 +165,7 @@ either_any false = refl
 any_is_arbitrary : (known : Known) → known.begun ≡ any_begun → (s : ℕ) → is_arbitrary known s ≡ true
 any_is_arbitrary known any s = ap (λ (b : Beginnings). is_any (cond (nat_lt s known.founders) b.opened b.added)) any ∙ either_any (nat_lt s known.founders)
 
-opens_anyhow : (known : Known) → known.begun ≡ any_begun → (opening : ℕ → List ℕ → Option Item) → OpensBy (is_arbitrary known) (trees_of known.configs) opening
+pub opens_anyhow : (known : Known) → known.begun ≡ any_begun → (opening : ℕ → List ℕ → Option Item) → OpensBy (is_arbitrary known) (trees_of known.configs) opening
 opens_anyhow known any opening server key none = absurd (let all = any_is_arbitrary known any server in cc)
 
 pub any_are_fresh : (served : ServedCore) → ((known : Known) → served.accepted ≡ Some known → EveryLogFromIsFresh known served) → IsAccepted served → EveryLogIsFresh served

@@ -7,6 +7,7 @@ use Rattle.mc_types.specs.declared.answer.Answer.{Answer}
 use Rattle.mc_types.specs.Items.{Item, after_call, after_done, recounted, number_made, is_done, removes}
 use Rattle.fresh_runs.proofs.Stamps.{by_test}
 use Rattle.fresh_runs.proofs.Seen.{Has}
+use Rattle.fresh_runs.specs.Untouched.{IsPutting}
 use Rattle.core_accepted.specs.Late.{begins_stamp}
 
 has_map : (Q : ℕ → Type 0) (o : Option Item) (f : Item → Item) → ((item : Item) → (f item).stamp ≡ item.stamp) → Has Q o → Has Q (option_map f o)
@@ -38,3 +39,18 @@ landed Q ask stamp answer spaces before q h =
 -- a delete stores nothing
 pub no_store : (op : Op) → op ≡ Delete → begins_stamp op ≡ true → ⊥
 no_store op e is = (let f = sym (ap begins_stamp e) ∙ is in cc)
+
+-- what begins an item with a stamp of its own puts an item
+pub puts_store : (op : Op) → begins_stamp op ≡ true → IsPutting op
+puts_store Set is = tt
+puts_store Add is = tt
+puts_store Replace is = tt
+puts_store Cas is = tt
+puts_store Append is = absurd (cc)
+puts_store Prepend is = absurd (cc)
+puts_store Incr is = absurd (cc)
+puts_store Decr is = absurd (cc)
+puts_store Get is = absurd (cc)
+puts_store Gat is = absurd (cc)
+puts_store Touch is = absurd (cc)
+puts_store Delete is = absurd (cc)

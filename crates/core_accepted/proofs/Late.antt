@@ -1,5 +1,5 @@
 -- Runs in which a server may apply a call late, as runs in which others write; and commands of runs: which have begun, and which are apart.
-use Rattle.std.proofs.Common.{◌≡◌, ℕ, true, false, cond, List, [], ◌∷◌, ◌++◌, Option, Some, None, inl, inr, ⊎_elim, refl, sym, ap, ◌∙◌, subst, arith, nat_eq, slice_get}
+use Rattle.std.proofs.Common.{◌≡◌, ℕ, ◌<◌, true, false, cond, List, [], ◌∷◌, ◌++◌, Option, Some, None, inl, inr, ⊎_elim, refl, sym, ap, ◌∙◌, subst, arith, nat_eq, slice_get}
 use Rattle.std.proofs.lemmas.Bool.{eqb-true}
 use Rattle.mc_types.specs.declared.ask.Ask.{Ask}
 use Rattle.mc_types.specs.declared.answer.Answer.{Answer}
@@ -34,7 +34,21 @@ way_begun (Breaks m ∷ past) n ask e =
 way_begun (Turns s key turned ∷ past) n ask e = way_begun past n ask e
 way_begun (Restarts s ∷ past) n ask e = way_begun past n ask e
 
-no_call : (j : ℕ) (call : Call) → slice_get [] j ≡ Some call → ⊥
+-- what has begun has a smaller number than what is new
+pub begun_below : (x : ℕ) (past : List Event) (n : ℕ) (ask : Ask) → IsNewNumber x past → begun_late past n ≡ Some ask → n < x
+begun_below x [] n ask new e = no_ask ask e
+begun_below x (Begins m client ∷ past) n ask new e =
+    (elim (nat_eq m n) as (λ b. nat_eq m n ≡ b → cond b (Some client) (begun_late past n) ≡ Some ask → n < x) [
+      | true ↦ λ is _. subst (λ k. k < x) (eqb-true m n is) new.0
+      | false ↦ λ _ is. begun_below x past n ask new.1 is
+    ]) refl e
+begun_below x (Calls m s a o end ∷ past) n ask new e = begun_below x past n ask new.1 e
+begun_below x (Replies m key r f ∷ past) n ask new e = begun_below x past n ask new.1 e
+begun_below x (Breaks m ∷ past) n ask new e = begun_below x past n ask new.1 e
+begun_below x (Turns s key turned ∷ past) n ask new e = begun_below x past n ask new e
+begun_below x (Restarts s ∷ past) n ask new e = begun_below x past n ask new e
+
+pub no_call : (j : ℕ) (call : Call) → slice_get [] j ≡ Some call → ⊥
 no_call j call e = cc
 
 -- what has begun and isn't over is under way
@@ -60,6 +74,20 @@ begun_way (Turns s key turned ∷ past) n ask e on = begun_way past n ask e on
 begun_way (Restarts s ∷ past) n ask e on = begun_way past n ask e on
 
 module _ (words : ℕ → Ask → List Call → Answer → Option ℕ → Type 0) (Bars : ℕ → Ask → ℕ → Ask → Type 0) (opening : ℕ → List ℕ → Option Item) where
+  -- its number was new when it began
+  pub new_before : (past : List Event) → Run words Bars opening past → (n : ℕ) (ask : Ask) → begun_late past n ≡ Some ask → IsNewNumber n (before past n)
+  new_before [] run n ask e = no_ask ask e
+  new_before (Begins x client ∷ past) run n ask e =
+      (elim (nat_eq x n) as (λ b. nat_eq x n ≡ b → cond b (Some client) (begun_late past n) ≡ Some ask → IsNewNumber n (cond b past (before past n))) [
+        | true ↦ λ is _. subst (λ k. IsNewNumber k past) (eqb-true x n is) run.0.0
+        | false ↦ λ _ is. new_before past run.1 n ask is
+      ]) refl e
+  new_before (Calls x s a o end ∷ past) run n ask e = new_before past run.1 n ask e
+  new_before (Replies x key r f ∷ past) run n ask e = new_before past run.1 n ask e
+  new_before (Breaks x ∷ past) run n ask e = new_before past run.1 n ask e
+  new_before (Turns s key turned ∷ past) run n ask e = new_before past run.1 n ask e
+  new_before (Restarts s ∷ past) run n ask e = new_before past run.1 n ask e
+
   -- a command that has begun, and that bars a delete of its key, wasn't under way with it: it was over when the delete began
   pub not_apart : (past : List Event) → Run words Bars opening past → (m n : ℕ) (client delete : Ask) → begun_late past m ≡ Some client → under_way past n ≡ Some delete → (m ≡ n → ⊥) → client.key ≡ delete.key → Bars m client n delete → (HasEnded (before past n) m → ⊥) → ⊥
   not_apart [] run m n client delete eb en unlike same bars on = no_ask client eb

@@ -1,6 +1,4 @@
-//! Fleets of cores on accepted trees.
+//! The gate for fleets of cores, and cores before servers that may apply calls late.
 
 pub mod gates;
-pub mod growth;
 pub mod laws;
-pub mod runs;

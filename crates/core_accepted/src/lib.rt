@@ -1,6 +1,6 @@
 //! The core that is served, with the gate's word on its trees where the gate was asked: then, whatever its clients and servers
-//! do, no reply shows what an acknowledged delete of its key hides. Laws of several such cores before the same servers are in
-//! [`fleets`].
+//! do, no reply shows what an acknowledged delete of its key hides. [`fleets`] has the gate for several such cores before the same
+//! servers, and the laws of one before servers that apply calls late; laws of several cores are in the crate `fresh_theory`.
 #![tactic(auto)]
 
 pub mod beginnings;

@@ -19,6 +19,4 @@ pub mod Broken
 pub mod Outcomes
 pub mod Resting
 pub mod Stalled
-pub mod AtOnce
 pub mod CallsStay
-pub mod Formed

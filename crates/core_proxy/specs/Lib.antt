@@ -9,5 +9,4 @@ pub mod Ending
 pub mod Finishing
 pub mod Settles
 pub mod Resting
-pub mod Serving
 pub mod CallsStay

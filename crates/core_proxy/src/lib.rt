@@ -12,11 +12,9 @@ pub mod note;
 pub mod polling;
 pub mod proxy;
 pub mod results;
-pub mod serving;
 
 pub use core_commands::{Claim, Command, OutCall, Sharing, Ticket};
 pub use fault::{CoreFault, TreeFault};
 pub use limits::CoreLimits;
-pub use note::{Note, Poll, ServedOne};
+pub use note::{Note, Poll};
 pub use proxy::Core;
-pub use serving::Servers;

@@ -16,9 +16,6 @@ pub const LAST_COMMAND: u64 = 18_446_744_073_709_551_615;
 /// The last generation that a tree can be.
 pub const LAST_GENERATION: u32 = 4_294_967_295;
 
-/// After how many calls [`Core::serve_one`](crate::Core::serve_one) answers no more of them at once: more than any command makes.
-pub const MOST_CALLS: u64 = 18_446_744_073_709_551_615;
-
 /// How much a core takes at once, what may be under way together, and by what text it tells of its version.
 #[derive(Clone, Copy)]
 pub struct CoreLimits {

@@ -34,18 +34,3 @@ pub enum Poll {
     /// A command ended.
     Did(Note),
 }
-
-/// What was done for a client whose calls are answered at once.
-#[derive(Drop)]
-pub enum ServedOne {
-    /// Nothing: no whole message is held, and no reply is waited for.
-    Idle,
-    /// A message that asks mcgate itself was answered.
-    Own,
-    /// A message was refused.
-    Refused,
-    /// A command ended.
-    Did(Note),
-    /// Nothing ended: a call that somebody else has to settle is out, or its next command waits for its key or its server.
-    Waits,
-}

@@ -1,6 +1,6 @@
 //! Tests: inputs that are taken, and those that are none.
 
-use mcgate_args::input_text::{INPUT_LIMIT, InputFault, read_input};
+use mcgate_ends::input_text::{INPUT_LIMIT, InputFault, read_input};
 use std::alloc::Global;
 use std::test::Fail;
 

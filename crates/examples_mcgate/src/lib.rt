@@ -8,7 +8,5 @@ mod faults;
 mod inputs;
 #[cfg(test)]
 mod program_ends;
-#[cfg(test)]
-mod slots;
 mod verdicts;
 mod watch;

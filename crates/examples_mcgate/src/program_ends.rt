@@ -7,14 +7,17 @@ use fault_words::fault_in_words;
 use fault_words::script::BadLine;
 use mcgate_args::arguments::{ArgumentsFault, Job, Task, read_arguments};
 use mcgate_args::bad_lines::{bad_line_of_events, bad_line_of_task};
-use mcgate_args::details::Details;
-use mcgate_args::ends::{ProgramEnd, Stop, end_of, read_configuration, run_events, run_input};
-use mcgate_args::input::{text_noting, text_of};
-use mcgate_args::input_text::InputFault;
-use mcgate_args::serve_arguments::{ServeJob, all_places};
+use mcgate_args::details::Explaining;
+use mcgate_args::ends::{ProgramEnd, end_of, read_configuration, run_events, run_input};
+use mcgate_args::serve_arguments::all_places;
 use mcgate_args::slots::SlotsChange;
 use mcgate_args::tell_arguments::TellJob;
-use mcgate_check::{Form, RunFault};
+use mcgate_ends::details::Details;
+use mcgate_ends::ends::Stop;
+use mcgate_ends::input::{text_noting, text_of};
+use mcgate_ends::input_text::InputFault;
+use mcgate_ends::serve_job::ServeJob;
+use mcgate_lines::{Form, RunFault};
 use mcgate_replay::Judging;
 use mcgate_replay::judging::USUAL_GENERATIONS;
 use route_json::Config;
@@ -562,7 +565,7 @@ fn files_that_give_no_input(rt: HostRuntime) -> Result<(), Fail> {
     Ok(())
 }
 
-// Inputs and faults, and what is said of them. The large tree has three pools of 64, 63 and 67 slots, whose least common multiple is 270,144.
+// Inputs and faults, and what is said of them.
 fn table() -> &'static str {
     r#"told of check: too large => mcgate: f has more than 16777216 bytes⏎
 told of replay: not UTF-8 => mcgate: f isn't UTF-8⏎
@@ -570,10 +573,6 @@ told of replay own: pool 1⏎hold 0 a 1⏎ => mcgate: f: by --opened the server 
 told of replay empty: pool 1⏎hold 0 a 1⏎ => mcgate: f: by --new-servers the server of that line can't have held the key⏎
 told of replay own empty: pool 1⏎hold 0 a 1⏎ => mcgate: f: by --opened and --new-servers the server of that line can't have held the key⏎
 told of replay: no memory => 
-told of check: {,} => mcgate: f:1:2: expected a name in double quotes or }, found ,⏎
-told of replay: {]⏎ => mcgate: f:1:2: expected a name in double quotes or }, found ]⏎
-refusal of check f: {"pools":{"A":{"servers":["a:1:16","b:1:16","c:1:16","d:1:16"]},"B":{"servers":["a:1:16","b:1:16","c:1:16","d:1:15"]},"C":{"servers":["a:1:16","b:1:16","c:1:16","d:1:16","e:1:3"]}},"route":{"type":"AllSyncRoute","children":["PoolRoute|A","PoolRoute|B","PoolRoute|C"]}} => mcgate: f: more than 262144 places; to change: pools whose sizes share divisors, such as 1,024 and 1,024 in place of 1,023 and 1,024⏎
-refusal of explain f: {"pools":{"A":{"servers":["a:1:16","b:1:16","c:1:16","d:1:16"]},"B":{"servers":["a:1:16","b:1:16","c:1:16","d:1:15"]},"C":{"servers":["a:1:16","b:1:16","c:1:16","d:1:16","e:1:3"]}},"route":{"type":"AllSyncRoute","children":["PoolRoute|A","PoolRoute|B","PoolRoute|C"]}} => 
 refusal of check f: {"pools":{},"route":"NullRoute"} => 
 refusal of check f: {} => 
 refusal of replay f: pool 1⏎ => 
@@ -583,24 +582,18 @@ listening by AddrInUse: a:1 => mcgate: cannot listen on a:1: address in use⏎
 listening by OutOfMemory: a:1 => 
 listening at a path by AddrInUse: /a => mcgate: cannot listen on /a: address in use⏎
 listening at a path by OutOfMemory: /a => 
-end of replay: pool 1⏎ => 0 -⏎done 0 commands 0 calls 0 stale⏎
-end of replay: pool 0⏎ => 2 -⏎script: bad line 1⏎
 end of replay: too large => 2 -⏎input: too large⏎
 end of replay: not UTF-8 => 2 -⏎input: not UTF-8⏎
 end of replay: no memory => 3 memory: refused⏎
 end of replay: device => 3 device: failed⏎
-end of events: ⏎restart 1⏎ => 2 -⏎script: bad line 2⏎
 end of events: too large => 2 -⏎input: too large⏎
 end of events: device => 3 device: failed⏎
 configuration: {"pools":{},⏎"route":"NullRoute"}⏎ => a configuration
-configuration: {} => config: bad field pools⏎
 configuration: too large => input: too large⏎
 configuration: not UTF-8 => input: not UTF-8⏎
-bad line of replay: pool 1⏎⏎los 0 a⏎ => line 3: no event has this word: los
 bad line of check: pool 1⏎⏎los 0 a⏎ => 
 bad line of replay: pool 1⏎ => 
 bad line of replay: {}⏎ => 
-bad line of events: ⏎restart 1⏎ => line 2: no such server: 1
 stop by usage:  => 2 usage: mcgate check, replay, serve, cache or loopback⏎
 stop by no memory for arguments:  => 3 memory: refused⏎
 stop by OutOfMemory:  => 3 memory: refused⏎
@@ -819,46 +812,5 @@ impl Teller for OfEnds {
 #[test]
 fn ends_and_what_is_said(rt: HostRuntime) -> Result<(), Fail> {
     assert_eq!(rt; wrong::<OfEnds>(rt.alloc(), table())?.as_str(), "");
-    Ok(())
-}
-
-// Tasks, their files, and the routes of trees of the pools A and B.
-fn refused_trees() -> &'static str {
-    r#"check f => {"type":"OperationSelectorRoute","default_policy":{"type":"FailoverRoute","children":["PoolRoute|A","PoolRoute|B"]},"operation_policies":{"delete":"PoolRoute|A"}}
-check => {"type":"FailoverRoute","children":["PoolRoute|A","PoolRoute|B"]}
-replay f => {"type":"PrefixSelectorRoute","policies":{"x":"PoolRoute|B"},"wildcard":{"type":"WarmUpRoute","cold":"PoolRoute|A","warm":"PoolRoute|B"}}
-replay => {"type":"MissFailoverRoute","children":["PoolRoute|B","PoolRoute|A"]}"#
-}
-
-// What is said of the refused trees, two lines each.
-fn refusals() -> &'static str {
-    "mcgate: f: server 1 is b:1 (pool B, place 1 of 1): get can show or copy what it holds, and delete can be acknowledged without clearing it
-mcgate: f: deletes of these keys go by /route/operation_policies/delete: PoolRoute A; to change: it lacks b:1 (pool B, place 1 of 1): put an AllSyncRoute there, over it and a route to that server; mcgate check --explain f says more
-mcgate: standard input: server 0 is a:1 (pool A, place 1 of 1): get can show or copy what it holds, and delete can be acknowledged without clearing it
-mcgate: standard input: deletes of these keys go by /route: FailoverRoute; to change: it can stop before a:1 (pool A, place 1 of 1): put an AllSyncRoute of its children there for deletes; mcgate check --explain says more
-mcgate: f: server 1 is b:1 (pool B, place 1 of 1): get can show or copy what it holds, and delete can be acknowledged without clearing it
-mcgate: f: deletes of these keys go by /route/wildcard: WarmUpRoute; to change: it asks its cold side alone, not b:1 (pool B, place 1 of 1): put an AllSyncRoute of both sides there for deletes; head -n 1 f | mcgate check --explain says more
-mcgate: standard input: server 0 is a:1 (pool A, place 1 of 1): get can show or copy what it holds, and delete can be acknowledged without clearing it
-mcgate: standard input: deletes of these keys go by /route: MissFailoverRoute; to change: it asks its first child alone, not a:1 (pool A, place 1 of 1): put an AllSyncRoute of its children there for deletes; mcgate check --explain of the first line says more
-"
-}
-
-// What is said of a tree of this route over the pools A and B; as a script's first line.
-fn told_of_route(alloc: Global, line: &str, route: &str) -> Result<String, AllocError> {
-    let text = format!(in alloc;
-        "{{\"pools\":{{\"A\":{{\"servers\":[\"a:1\"]}},\"B\":{{\"servers\":[\"b:1\"]}}}},\"route\":{route}}}\n"
-    )?;
-    told_of_refusal(alloc, line, text.as_str())
-}
-
-#[test]
-fn trees_that_are_refused(rt: HostRuntime) -> Result<(), Fail> {
-    let mut all = String::new(rt.alloc());
-    for example in refused_trees().lines() {
-        let (line, route) = halves(example, " => ");
-        let told = told_of_route(rt.alloc(), line, route)?;
-        all.push_str(told.as_str())?;
-    }
-    assert_eq!(rt; all.as_str(), refusals());
     Ok(())
 }

@@ -1,16 +1,11 @@
-//! Worked examples of what is printed of a configuration: verdicts, certificates, explanations, pictures, the places of keys. They stand
-//! above the crates that they show, so that a change of an example proves the example alone.
+//! Worked examples of what is printed of a configuration where `examples_rows` can't say it: a
+//! writer that fails, a configuration that is to follow the one in use, pictures of gaps that the
+//! gate doesn't find first, what is said of servers on which something is left.
 
-#[cfg(test)]
-mod certificates;
-#[cfg(test)]
-mod explanations;
 #[cfg(test)]
 mod fleets;
 #[cfg(test)]
 mod pictures;
-#[cfg(test)]
-mod places;
 #[cfg(test)]
 mod plans;
 #[cfg(test)]

@@ -2,8 +2,9 @@
 
 ghost use Rattle.std.specs.Prelude.{IfOk};
 ghost use Rattle.mc_types.specs.Fits.{Fits, FitsFetch, IsAnswer};
+ghost use Rattle.fresh_runs.specs.Single.{FitsOutcome};
 
-use core_proxy::{OutCall, Servers};
+use core_proxy::OutCall;
 use mc_types::{Answer, Ask, Body, Dialect, Op, Outcome};
 use std::alloc::{AllocError, Global};
 
@@ -55,8 +56,11 @@ fn answer_to(alloc: Global, ask: &Ask) -> Result<Answer, AllocError>
     }
 }
 
-impl Servers for FixedServers {
-    fn answer(&mut self, call: OutCall<'_>) -> Outcome {
+impl FixedServers {
+    /// What they answer to a call.
+    pub fn answer(&mut self, call: OutCall<'_>) -> Outcome
+        ensures { FitsOutcome call.entry.ask.now result }
+    {
         self.calls = self.calls.saturating_add(1);
         if self.are_down {
             return Outcome::Failed;

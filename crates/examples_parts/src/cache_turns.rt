@@ -2,7 +2,7 @@
 
 use crate::reading::{halves, same, text_of, wire};
 use cache_tcp::{CacheEnd, Settings};
-use serve_wire::memory::{Act, Memory, Peer};
+use examples_memory::{Act, Memory, Peer};
 use std::alloc::Global;
 use std::test::Fail;
 

@@ -1,6 +1,6 @@
 //! Far ends of a wire in memory, which do what an example says as it goes.
 
-use serve_wire::memory::{Act, Memory, Peer};
+use examples_memory::{Act, Memory, Peer};
 use serve_wire::{Accepted, Wire};
 use std::alloc::Global;
 use std::test::Fail;

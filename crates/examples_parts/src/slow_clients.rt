@@ -5,9 +5,9 @@ use crate::reading::{halves, key, number, same, text_of, wire};
 use cache_tcp::client::{AfterTurn, CacheClient};
 use cache_tcp::clock::UnixTime;
 use cache_tcp::connection::Cache;
+use examples_memory::{Act, Memory};
 use mc_types::DATA_LIMIT;
 use serve_wire::conn::{Conn, Limits};
-use serve_wire::memory::{Act, Memory};
 use std::alloc::{AllocError, Global};
 use std::test::Fail;
 

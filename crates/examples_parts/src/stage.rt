@@ -7,7 +7,7 @@ ghost use Rattle.route_tree.specs.Route as route;
 use crate::answering::FixedServers;
 use crate::reading::ask;
 use core_accepted::{Beginnings, LoadFault, ServedCore};
-use core_proxy::{Core, CoreFault, CoreLimits, Poll, ServedOne, Servers, Sharing, Ticket};
+use core_proxy::{Core, CoreFault, CoreLimits, Poll, Sharing, Ticket};
 use gate_check::judge;
 use gate_growth::ledger::Beginning;
 use mc_types::{Origin, Outcome, ServerId, SharedAsk};
@@ -15,6 +15,9 @@ use route_json::{Config, read_config};
 use route_tree::{Tree, TreeForm};
 use std::alloc::{AllocError, Global};
 use std::test::Fail;
+
+// After how many calls of a client no more of them are answered at once: more than any example makes.
+const MOST_CALLS: u64 = 100;
 
 // A core by itself, or one that is served by a gate's word.
 #[derive(Drop)]
@@ -89,21 +92,11 @@ fn polled(poll: &Poll) -> ToldReply {
     }
 }
 
-fn served(told: &ServedOne) -> ToldReply {
-    match told {
-        ServedOne::Idle => word("idle"),
-        ServedOne::Own => word("own"),
-        ServedOne::Refused => word("refused"),
-        ServedOne::Did(note) => number("did ", note.number),
-        ServedOne::Waits => word("waits"),
-    }
-}
-
-// What these servers make of a core's client.
-fn serve_bare(core: &mut Core, client: usize, servers: &mut FixedServers) -> ToldReply {
-    match core.serve_one(client, servers) {
-        Ok(told) => served(&told),
-        Err(fault) => word(words_of(fault)),
+// The same where no call is handed out: what is waited for isn't told apart.
+fn served(poll: &Poll) -> ToldReply {
+    match poll {
+        Poll::Waiting | Poll::Queued | Poll::Busy => word("waits"),
+        _ => polled(poll),
     }
 }
 
@@ -128,6 +121,22 @@ fn answer_bare(
         None => Err(CoreFault::NoTicket),
         Some(outcome) => core.settle(ticket, outcome),
     }
+}
+
+// A client is polled, and what a poll hands out is answered by these servers, until a poll tells something else.
+fn serve_bare(core: &mut Core, client: usize, servers: &mut FixedServers) -> ToldReply {
+    for _call in 0..MOST_CALLS {
+        match core.poll(client) {
+            Ok(Poll::Call(ticket)) => {
+                if let Err(fault) = answer_bare(core, ticket, servers) {
+                    return word(words_of(fault));
+                }
+            }
+            Ok(poll) => return served(&poll),
+            Err(fault) => return word(words_of(fault)),
+        }
+    }
+    word("more calls")
 }
 
 impl Played {

@@ -7,7 +7,7 @@ ghost use Rattle.mc_types.specs.Fits.{Fits, IsAnswer, FitsFetch, FitsStore, Fits
 ghost use Rattle.fresh_runs.specs.Single.{FitsOutcome};
 
 use crate::trees::tree_of;
-use examples_tables::tellers::{Teller, halves, push_number, push_word, wrong};
+use examples_tables::tellers::{Teller, all_told, halves, push_number, push_word};
 use mc_types::{Answer, Ask, Body, Dialect, Key, Op, Origin, Outcome, ServerId, SharedAsk, Tokens};
 use route_job::{Job, JobStep};
 use route_json::ConfigFault;
@@ -334,8 +334,7 @@ impl Teller for OfJobs {
 
 #[test]
 fn jobs(rt: HostRuntime) -> Result<(), Fail> {
-    assert_eq!(rt; wrong::<OfJobs>(rt.alloc(), table())?.as_str(), "");
-    Ok(())
+    all_told::<OfJobs>(rt.alloc(), table())
 }
 
 // The server that is called next, if one is.

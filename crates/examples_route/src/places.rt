@@ -1,14 +1,15 @@
 //! Worked trees: their places, what they take and clear, and the certificates that are proposed for them.
 
-ghost use Rattle.std.specs.Prelude.{◌<◌, ◌≤◌};
-ghost use Rattle.gate_check.specs.Tables.{row_count, most_rows};
+ghost use Rattle.std.specs.Prelude.{◌<◌, ◌≤◌, [], ◌∷◌};
+ghost use Rattle.gate_check.specs.Tables.{IsTable, row_count, most_rows};
 
 use crate::trees::{place_of, tree_of, tree_of_text};
 use examples_tables::tellers::{
-    Teller, halves, number_of, push_number, push_word, written_out, wrong,
+    Teller, all_told, halves, number_of, push_number, push_word, written_out,
 };
+use gate_check::places::proposing::propose_by;
 use gate_check::places::{
-    Certificate, ClassRows, PlaceFault, PlaceTable, Run, places, places_of_two, propose,
+    Certificate, ClassRows, PlaceFault, PlaceTable, Run, places, places_of_two,
 };
 use gate_coverage::{Deleting, cleared, taken};
 use mc_types::{Key, ServerId};
@@ -127,8 +128,8 @@ fn length_of(place: &Place) -> usize {
 
 fn moduli(alloc: Global, table: &PlaceTable) -> Result<String, AllocError> {
     let mut out = String::new(alloc);
-    for class in 0..table.classes.len() {
-        push_number(&mut out, table.modulus_of(class))?;
+    for class in &table.classes {
+        push_number(&mut out, class.modulus)?;
     }
     Ok(out)
 }
@@ -224,13 +225,25 @@ fn told_of_runs(
     }
 }
 
-// Of a run, or else the number of classes.
+// What is proposed for the tree, whose table of places this is: of a run, or else the number of classes.
+fn told_of_proposed(
+    alloc: Global,
+    tree: &Tree,
+    table: &PlaceTable,
+    question: &str,
+) -> Result<String, AllocError>
+    requires { IsTable (tree.now ∷ []) table.now }
+{
+    let certificate = propose_by(alloc, tree, table)?;
+    match question.strip_prefix("run ") {
+        Some(text) => told_of_runs(alloc, &certificate, text),
+        None => certificate.classes.len().to_string(alloc),
+    }
+}
+
 fn told_of_certificate(alloc: Global, tree: &Tree, question: &str) -> Result<String, AllocError> {
-    match propose(alloc, tree) {
-        Ok(certificate) => match question.strip_prefix("run ") {
-            Some(text) => told_of_runs(alloc, &certificate, text),
-            None => certificate.classes.len().to_string(alloc),
-        },
+    match places(alloc, tree) {
+        Ok(table) => told_of_proposed(alloc, tree, &table, question),
         Err(fault) => fault_word(fault).to_string(alloc),
     }
 }
@@ -302,6 +315,5 @@ impl Teller for OfPlaces {
 
 #[test]
 fn places_of_trees(rt: HostRuntime) -> Result<(), Fail> {
-    assert_eq!(rt; wrong::<OfPlaces>(rt.alloc(), table())?.as_str(), "");
-    Ok(())
+    all_told::<OfPlaces>(rt.alloc(), table())
 }

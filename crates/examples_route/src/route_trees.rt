@@ -2,7 +2,7 @@
 //! and that of `k6` (993d8254), by a second program.
 
 use crate::trees::{place_of, tree_of};
-use examples_tables::tellers::{Teller, halves, wrong};
+use examples_tables::tellers::{Teller, all_told, halves};
 use mc_types::{Key, ServerId};
 use route_json::ConfigFault;
 use route_tree::{Plain, PlainForm, Tree, TreeForm};
@@ -27,12 +27,12 @@ two_pools: slots at x{a}y => Some((11, 20))
 two_pools: slots at place 4/6 => Some((11, 20))
 two_pools: slots at k6 => Some((12, 20))
 two_pools: slots at place 2/6 => Some((12, 20))
-# Whether each key has one server.
-server: is direct => true
-by_prefix: is direct => true
-null_for_others: is direct => false
-null_for_prefix: is direct => false
-two_pools: is direct => false"#
+# A key with one server for all operations, and keys without: `k6` has one for a delete and another for all else.
+server: at a => Some(7)
+by_prefix: at k6 => Some(2)
+null_for_others: at k6 => None
+null_for_prefix: at a => None
+two_pools: at k6 => None"#
 }
 
 // The route of this name: of `two_pools` deletes go to a pool of three servers, 10 to 12, all else to one of two, 20 and 21.
@@ -106,9 +106,6 @@ fn told_on(alloc: Global, tree: &Tree, question: &str) -> Result<String, AllocEr
     if let Some(text) = question.strip_prefix("at ") {
         return told_at(alloc, tree, "", text);
     }
-    if question == "is direct" {
-        return tree.is_direct().to_string(alloc);
-    }
     let (what, text) = halves(question, " at ");
     told_at(alloc, tree, what, text)
 }
@@ -127,6 +124,5 @@ impl Teller for OfPlainTrees {
 
 #[test]
 fn plain_trees(rt: HostRuntime) -> Result<(), Fail> {
-    assert_eq!(rt; wrong::<OfPlainTrees>(rt.alloc(), table())?.as_str(), "");
-    Ok(())
+    all_told::<OfPlainTrees>(rt.alloc(), table())
 }

@@ -1,13 +1,7 @@
-//! Worked examples of what is printed of scripts: those that run, that step their calls, that are refused, and that can't be read.
-//! They stand above the crates that they show, so that a change of an example proves the example alone.
+//! Worked examples of what is printed of scripts where `examples_rows` can't say it: each call of a
+//! script fails in each way, and a writer that fails.
 
 #[cfg(test)]
-mod begun;
-#[cfg(test)]
-mod generations;
-#[cfg(test)]
-mod replays;
-#[cfg(test)]
-mod scripts;
+mod full_writers;
 #[cfg(test)]
 mod stepped_scripts;

@@ -3,6 +3,7 @@
 use examples_tables::tables::{expanded, unfolded};
 use examples_tables::tellers::{Teller, halves, wrong};
 use mc_types::{Key, ServerId};
+use mcgate_lines::faults::write_config_fault;
 use route_json::{Config, ConfigFault};
 use script_events::text::configured::{ConfiguredScript, ScriptFault};
 use script_events::text::escapes::unescape;
@@ -10,9 +11,7 @@ use script_events::text::event::read_event;
 use script_events::text::fault::LineFault;
 use script_events::text::front::front_of;
 use script_events::text::laws::escapes_are_read_back;
-use script_events::text::printer::{
-    write_bad_line, write_config_fault, write_outputs, write_report,
-};
+use script_events::text::printer::{write_bad_line, write_outputs, write_report};
 use script_events::text::reader::{read_events, read_script};
 use script_events::text::words::{cut, number_under};
 use script_events::{Event, Loss, Manner, Output, Reload, Report};
@@ -57,97 +56,19 @@ event: at 1 restart 2 => at call 1: server 2 restarts
 event: moment 9223372036854775807 => moment 9223372036854775807"
 }
 
-fn no_events() -> &'static str {
-    r"event: > 0 => no event
-event: > 64 a => no event
-event: >0 a => no event
-event: >  0 a => no event
-event: > 0 \q => no event
-event: hold 0 a => no event
-event: hold 0  x => no event
-event: hold 4294967296 a x => no event
-event: fail 0 before => no event
-event: fail 4294967296 before => no event
-event: fail 1 => no event
-event: fail 1 after  => no event
-event: fail 1 cut => no event
-event: fail 1 cut  => no event
-event: fail 1 cut 4294967296 => no event
-event: fail 1 cut 1  => no event
-event: fail 1 cut1 => no event
-event: fail 1 junk  => no event
-event: fail 0 junk => no event
-event: + => no event
-event: + 0 => no event
-event: + 64 a => no event
-event: +0 a => no event
-event: + 0 \q => no event
-event: result => no event
-event: result  => no event
-event: result 0  => no event
-event: result 4294967296 => no event
-event: Result 0 => no event
-event: lose 0 => no event
-event: lose 0 a b => no event
-event: restart => no event
-event: restart 0  => no event
-event: moment 9223372036854775808 => no event
-event: moment -1 => no event
-event: at 0 restart 0 => no event
-event: at 1 moment 5 => no event
-event: at 1 restart => no event
-event: reload {} => no event
-event:  restart 0 => no event
-event: Restart 0 => no event"
-}
-
-// Scripts, and how many servers each has and its configuration alone, the line of each event, and what is loaded where. The last ones
-// have an x for a bad line.
+// Scripts, and how many servers each has and its configuration alone, the line of each event, and what is loaded where.
 fn scripts() -> &'static str {
     r#"script: pool 1024⏎⏎# a comment⏎restart 1023⏎⏎moment 5 => 1024 servers, 1024 first; 2 events: 4 6
 script: pool 1 => 1 servers, 1 first; 0 events:
-script: pool 1⏎moment 5⏎reload {"pools":{"A":{"servers":["h:1","s0:1"]}},"route":"PoolRoute|A"}⏎restart 1 => 2 servers, 1 first; 2 events: 2 4; before event 1: s0:1 h:1
-script: over A and B "NullRoute"⏎x => bad line 2
-script: over A and B "ErrorRoute"⏎x => bad line 2
-script: over A and B "AllSyncRoute|Pool|A"⏎x => bad line 2
-script: over A and B {"type":"PrefixSelectorRoute","policies":{"a":"PoolRoute|A","ab":"PoolRoute|B"}}⏎x => bad line 2
-script: over A and B {"type":"PrefixSelectorRoute","policies":{"a":"PoolRoute|A","ab":"PoolRoute|B"},"wildcard":"PoolRoute|A"}⏎restart 1⏎x => bad line 3
-script: over A and B {"type":"PrefixSelectorRoute","policies":{"a":"PoolRoute|A","ab":"PoolRoute|B"},"wildcard":"PoolRoute|A"}⏎restart 2⏎x => bad line 2"#
+script: pool 1⏎moment 5⏎reload {"pools":{"A":{"servers":["h:1","s0:1"]}},"route":"PoolRoute|A"}⏎restart 1 => 2 servers, 1 first; 2 events: 2 4; before event 1: s0:1 h:1"#
 }
 
-fn bad_scripts() -> &'static str {
-    r#"script: [] => not JSON
-script: []⏎x => not JSON
-script:  => not JSON
-script: ⏎pool 1 => not JSON
-script: # a comment⏎pool 1 => not JSON
-script:  pool 1 => not JSON
-script: Pool 1 => not JSON
-script: {"pools":{}} => bad field route
-script: {"pools":{},⏎"route":"NullRoute"} => not JSON
-script: pool => bad line 1
-script: pool 0 => bad line 1
-script: pool 1025 => bad line 1
-script: pool  1 => bad line 1
-script: pool 1  => bad line 1
-script: pools 3 => bad line 1
-script: pool{}⏎x => bad line 1
-script: pool 1⏎x⏎y => bad line 2
-script: pool 1⏎⏎#⏎> 0 a⏎> 0 => bad line 5
-script: pool 1⏎restart 0⏎moment x⏎ => bad line 3
-script: pool 1⏎restart 1⏎moment x⏎ => bad line 2"#
-}
-
-// Events over two servers, and their lines or the bad one.
+// Events over two servers, and their lines.
 fn scripts_of_events() -> &'static str {
     r"events:  => lines
 events: restart 1 => lines 1
 events: # two⏎⏎restart 1⏎> 0 ⏎ => lines 3 4
-events: restart 2 => lines 1
-events: pool 2 => bad line 1
-events: {} => bad line 1
-events: ⏎x => bad line 2
-events: restart 1⏎restart 2⏎x => bad line 2"
+events: restart 2 => lines 1"
 }
 
 fn told_of_escapes(alloc: Global, text: &[u8]) -> Result<String, AllocError> {
@@ -283,11 +204,6 @@ fn told_of_script(alloc: Global, text: &str) -> Result<String, AllocError> {
     }
 }
 
-fn told_of_expanded(alloc: Global, text: &str) -> Result<String, AllocError> {
-    let text = expanded(alloc, text)?;
-    told_of_script(alloc, text.as_str())
-}
-
 fn line_words(alloc: Global, read: &ConfiguredScript) -> Result<String, AllocError> {
     let mut words = "lines".to_string(alloc)?;
     push_lines(&mut words, read)?;
@@ -310,7 +226,7 @@ fn told_of(alloc: Global, question: &str, text: &str) -> Result<String, AllocErr
     match question {
         "escapes" => told_of_escapes(alloc, text.as_bytes()),
         "event" => told_of_line(alloc, text.as_bytes()),
-        "script" => told_of_expanded(alloc, text),
+        "script" => told_of_script(alloc, text),
         _ => told_of_events(alloc, text),
     }
 }
@@ -328,14 +244,7 @@ impl Teller for OfScriptTexts {
 #[test]
 fn texts_of_scripts(rt: HostRuntime) -> Result<(), Fail> {
     escapes_are_read_back();
-    for table in [
-        escapes(),
-        events(),
-        no_events(),
-        scripts(),
-        bad_scripts(),
-        scripts_of_events(),
-    ] {
+    for table in [escapes(), events(), scripts(), scripts_of_events()] {
         assert_eq!(rt; wrong::<OfScriptTexts>(rt.alloc(), table)?.as_str(), "");
     }
     Ok(())
@@ -346,10 +255,6 @@ fn texts_of_scripts(rt: HostRuntime) -> Result<(), Fail> {
 fn returns_and_tabs(rt: HostRuntime) -> Result<(), Fail> {
     let told = told_of_escapes(rt.alloc(), b"\xc3\xa9\r\t")?;
     assert_eq!(rt; told.as_str(), r"\xc3\xa9\r\x09");
-    let told = told_of_line(rt.alloc(), b"restart 0\r")?;
-    assert_eq!(rt; told.as_str(), "no event");
-    let told = told_of_script(rt.alloc(), "pool 1\r\n")?;
-    assert_eq!(rt; told.as_str(), "bad line 1");
     Ok(())
 }
 

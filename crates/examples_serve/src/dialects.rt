@@ -39,7 +39,7 @@ gets 0 => VALUE a 5 1\r\nx\r\nEND\r\n"
 fn large_answers() -> &'static str {
     r"Answers with large data come whole, in whatever pieces and whatever spelling.
 server
-proxy <one server>
+patient-proxy <one server>
 connect => 0
 send 0 get a\r\nget b\r\nget c\r\nget d\r\n
 accept => 1

@@ -2,26 +2,25 @@
 
 use crate::heard::{Heard, is_whole};
 use crate::rerun_wire::RerunWire;
-use crate::wires::proxies::looked_up;
-use crate::wires::scripts::bytes_of;
-use crate::wires::served::{Askers, ServeLoop};
+use crate::served::{Askers, ServeLoop};
 use cache_tcp::CacheEnd;
+use examples_memory::acts::bytes_of;
+use examples_proxy::starts::looked_up;
 use examples_tables::configs::with_configs;
 use examples_tables::playing::{
     Stage, cut, first_line, numbered, plain, play_lines, shown, yes_or_no,
 };
 use examples_tables::tellers::written_out;
 use gate_check::{Accepted, judge};
-use mcgate_serve::controlling::Controlling;
-use mcgate_serve::listens::Listens;
+use mcgate_notes::controlling::Controlling;
 use mcgate_serve::watching::Watching;
 use route_json::addresses::Servers;
 use route_json::addresses::servers::MAX_SERVERS;
 use route_json::{Config, read_config, read_config_after};
 use serde_json::Value;
 use serve_proxy::{Beginnings, LinkNews, ProxyEnd, Settings, VersionText, text_at};
-use serve_wire::Wire;
 use serve_wire::sockets::Sockets;
+use serve_wire::{Listens, Wire};
 use std::alloc::{AllocError, Global};
 use std::io::{ErrorKind, Read, Write};
 use std::net::{IpAddr, Ipv4Addr, Shutdown, SocketAddr, TcpListener, TcpStream};
@@ -986,6 +985,7 @@ impl TurnedEnds<'_> {
             "full-server" => self.play_full_server(),
             "proxy" => self.begin_proxy(text, Settings::usual()),
             "small-proxy" => self.begin_proxy(text, one_client_of_a_proxy()),
+            "patient-proxy" => self.begin_proxy(text, patient()),
             "strict-proxy" => self.begin_proxy(text, strict()),
             "slow-retry-proxy" => self.begin_proxy(text, retried_after(u64::MAX)),
             "quick-retry-proxy" => self.begin_proxy(text, retried_after(1)),
@@ -1086,6 +1086,14 @@ fn one_client_of_a_proxy() -> Settings {
 // So long that no call of an example is late.
 const LONG: u64 = 3_600_000;
 
+// The settings of a proxy that waits for answers as long as a busy machine needs for them.
+fn patient() -> Settings {
+    Settings {
+        call_ms: LONG,
+        ..Settings::usual()
+    }
+}
+
 // The settings of a proxy whose links may be read three times in a row without a whole answer.
 fn strict() -> Settings {
     Settings {
@@ -1132,6 +1140,7 @@ impl Stage for TurnedEnds<'_> {
             | "full-server"
             | "proxy"
             | "small-proxy"
+            | "patient-proxy"
             | "strict-proxy"
             | "slow-retry-proxy"
             | "quick-retry-proxy"

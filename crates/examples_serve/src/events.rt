@@ -1,7 +1,8 @@
 //! What lines tell by keys, as words and in JSON.
 
+use examples_tables::tables::same;
 use examples_tables::tellers::{Teller, wrong};
-use mcgate_serve::events::{Field, InJson, InWords, LogEvent, Subject};
+use mcgate_notes::events::{Field, InJson, InWords, LogEvent, Subject};
 use std::alloc::{AllocError, Global};
 use std::test::Fail;
 
@@ -65,18 +66,27 @@ impl Teller for OfEvents {
 
 #[test]
 fn events_of_servers(rt: HostRuntime) -> Result<(), Fail> {
-    assert_eq!(rt; wrong::<OfServers>(rt.alloc(), servers())?.as_str(), "");
-    Ok(())
+    same(
+        "servers",
+        wrong::<OfServers>(rt.alloc(), servers())?.as_str(),
+        "",
+    )
 }
 
 #[test]
 fn events_of_new_texts(rt: HostRuntime) -> Result<(), Fail> {
-    assert_eq!(rt; wrong::<OfVerdicts>(rt.alloc(), verdicts())?.as_str(), "");
-    Ok(())
+    same(
+        "new texts",
+        wrong::<OfVerdicts>(rt.alloc(), verdicts())?.as_str(),
+        "",
+    )
 }
 
 #[test]
 fn events_without_keys(rt: HostRuntime) -> Result<(), Fail> {
-    assert_eq!(rt; wrong::<OfEvents>(rt.alloc(), texts())?.as_str(), "");
-    Ok(())
+    same(
+        "no keys",
+        wrong::<OfEvents>(rt.alloc(), texts())?.as_str(),
+        "",
+    )
 }

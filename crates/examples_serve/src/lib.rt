@@ -18,11 +18,14 @@ mod link_news;
 #[cfg(test)]
 mod loops;
 #[cfg(test)]
+mod names;
+#[cfg(test)]
 mod proxies;
 #[cfg(test)]
 mod rerun_wire;
 #[cfg(test)]
 mod scripts;
 #[cfg(test)]
+mod served;
+#[cfg(test)]
 mod watched;
-mod wires;

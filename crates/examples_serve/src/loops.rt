@@ -1,7 +1,7 @@
 //! The loop of `mcgate serve` over real sockets: cache servers, a client, and texts of its file.
 
 use crate::ends::{SOCKETS, play_all};
-use crate::wires::served::remove;
+use crate::served::remove;
 use std::test::Fail;
 
 // What each server holds is told by clients of its own.

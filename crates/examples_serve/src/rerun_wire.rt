@@ -2,8 +2,7 @@
 //! wire alone. Its waits are counted, too.
 
 use bytes::BytesMut;
-use mcgate_serve::listens::Listens;
-use serve_wire::{Accepted, Connected, Lead, ReadOutcome, Report, Wire, WriteOutcome};
+use serve_wire::{Accepted, Connected, Lead, Listens, ReadOutcome, Report, Wire, WriteOutcome};
 use std::io;
 use std::io::{ErrorKind, IoSlice};
 use std::net::{Net, SocketAddr};

@@ -1,7 +1,7 @@
 //! The loop of `mcgate serve` over real sockets, which is asked for numbers over HTTP and told words: cache servers, a client, and who asks.
 
 use crate::ends::{LoopFiles, play_loops};
-use crate::wires::served::remove;
+use crate::served::remove;
 use std::test::Fail;
 
 const NUMBERS: LoopFiles = LoopFiles {

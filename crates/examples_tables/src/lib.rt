@@ -9,7 +9,6 @@
 #![tactic(auto)]
 
 pub mod configs;
-pub mod faults;
 pub mod full_writer;
 pub mod playing;
 pub mod tables;

@@ -11,6 +11,14 @@ pub fn same(name: &str, got: &str, wanted: &str) -> Result<(), Fail> {
     Err(Fail::new(format_args!("{name}: {got}")))
 }
 
+/// The same of bytes.
+pub fn same_bytes(name: &str, got: &[u8], wanted: &[u8]) -> Result<(), Fail> {
+    if got == wanted {
+        return Ok(());
+    }
+    Err(Fail::new(format_args!("{name}: {}", got.escape_ascii())))
+}
+
 /// An example of several lines: `== NAME`, what is given, `-- STATUS`, and what is printed.
 #[derive(Clone, Copy)]
 pub struct Example<'a> {

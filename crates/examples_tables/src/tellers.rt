@@ -1,7 +1,9 @@
 //! Tables of examples. A line is an example, ` => `, and what is told of it; a line that begins with `#` is a remark.
 //! In an example `«31 [»` stands for 31 times `[`, in which `#` is the number of the time, from 1 on.
 
+use crate::tables::same;
 use std::alloc::{AllocError, Global};
+use std::test::Fail;
 
 /// What stands before and after these bytes; without them, all stands before.
 pub fn halves<'a>(text: &'a str, by: &str) -> (&'a str, &'a str) {
@@ -25,6 +27,12 @@ pub fn wrong<T: Teller>(alloc: Global, table: &str) -> Result<String, AllocError
         }
     }
     Ok(out)
+}
+
+/// That of each line of the table what it says is told.
+pub fn all_told<T: Teller>(alloc: Global, table: &str) -> Result<(), Fail> {
+    let lines = wrong::<T>(alloc, table)?;
+    same("told otherwise", lines.as_str(), "")
 }
 
 // The line and what is told of it, unless that is what is wanted.

@@ -1,5 +1,6 @@
 //! The lines of refusals.
 
+use examples_tables::tables::same_bytes;
 use std::alloc::{AllocError, Global};
 use std::test::Fail;
 use wire_parts::RefusalReason;
@@ -40,6 +41,6 @@ fn lines(alloc: Global) -> Result<Vec<u8>, AllocError> {
 
 #[test]
 fn refusal_lines(rt: HostRuntime) -> Result<(), Fail> {
-    assert_eq!(rt; lines(rt.alloc())?.as_slice(), wanted());
-    Ok(())
+    let got = lines(rt.alloc())?;
+    same_bytes("refusals", got.as_slice(), wanted())
 }

@@ -1,18 +1,9 @@
 //! Classic requests: each refusal, cuts, and the one spelling.
 
-ghost use Rattle.std.specs.Prelude.{◌<◌, IfOk, length};
-ghost use Rattle.wire_classic.specs.Message.{IsClassicReadFrom, classic_message_in};
-ghost use Rattle.wire_classic.specs.Asks.{classic_asks_of, IsClassicAsk};
-
-use crate::escapes::{bytes_of, spelled};
-use crate::reads::{refused, served};
-use bytes::BytesMut;
-use examples_tables::tellers::{Teller, halves, wrong};
-use mc_types::Ask;
-use std::alloc::{AllocError, Global};
+use crate::reads::OfRequests;
+use examples_tables::tellers::all_told;
+use std::alloc::Global;
 use std::test::Fail;
-use wire_classic::{ClassicRead, ClassicRequest, read_request, write_ask};
-use wire_parts::received::Received;
 
 // Bytes, and how they are read; `cut` at any place, they want more.
 fn reads() -> &'static str {
@@ -27,8 +18,10 @@ read:  \r\n => ERROR
 read: foo\r\n => ERROR
 read: GET a\r\n => ERROR
 read: get\r\n => ERROR
-read: mn\r\n => ERROR
-read: ms a 1\r\n => ERROR
+# Words of the other dialect.
+read: mn\r\n => noop
+read: ms a 1\r\n => more
+# More words than a command has.
 read: version 1\r\n => ERROR
 read: delete a 1\r\n => ERROR
 read: delete a noreply 0\r\n => ERROR
@@ -86,106 +79,9 @@ asks: quit\r\n => nothing
 asks: gats 5 a  bc d\r\n => gats 5 a\r\ngats 5 bc\r\ngats 5 d\r\n"
 }
 
-fn read_told(alloc: Global, bytes: &[u8]) -> Result<String, AllocError> {
-    match read_request(bytes) {
-        ClassicRead::More => "more".to_string(alloc),
-        ClassicRead::TooLong => "too long".to_string(alloc),
-        ClassicRead::Request(request) => served(
-            alloc,
-            bytes.len(),
-            request.used,
-            request.own(),
-            request.quiet(),
-        ),
-        ClassicRead::Refused { why, used, skip } => refused(alloc, bytes.len(), why, used, skip),
-    }
-}
-
-fn wants_more(bytes: &[u8]) -> bool {
-    matches!(read_request(bytes), ClassicRead::More)
-}
-
-fn cut_told(alloc: Global, bytes: &[u8]) -> Result<String, AllocError> {
-    for end in 0..bytes.len() {
-        if !wants_more(&bytes[..end]) {
-            return "read early".to_string(alloc);
-        }
-    }
-    read_told(alloc, bytes)
-}
-
-// What the asks that a walk comes to are written as.
-fn walked(alloc: Global, request: &ClassicRequest, bytes: &[u8]) -> Result<BytesMut, AllocError>
-    requires { IsClassicReadFrom bytes.now request.now }
-{
-    let mut out = BytesMut::new(alloc);
-    let mut walk = request.walk();
-    for _ in 0..request.asks().saturating_add(1) {
-        if let Some(ask) = walk.next(alloc, &Received::copied(bytes))? {
-            write_ask(&ask, &mut out)?;
-        }
-    }
-    Ok(out)
-}
-
-fn first_ask(alloc: Global, request: &ClassicRequest, bytes: &[u8]) -> Result<Ask, AllocError>
-    requires read { IsClassicReadFrom bytes.now request.now }
-    requires some { 0 < length (classic_asks_of (classic_message_in bytes.now request.now)) }
-    ensures { IfOk result IsClassicAsk }
-{
-    let received = Received::copied(bytes);
-    let parts = request.parts(alloc, &received, 0)?;
-    Ask::of(alloc, parts)
-}
-
-// What the first ask is written as, if there is one.
-fn first(alloc: Global, request: &ClassicRequest, bytes: &[u8]) -> Result<BytesMut, AllocError>
-    requires { IsClassicReadFrom bytes.now request.now }
-{
-    let mut out = BytesMut::new(alloc);
-    if request.asks() > 0 {
-        let ask = first_ask(alloc, request, bytes)?;
-        write_ask(&ask, &mut out)?;
-    }
-    Ok(out)
-}
-
-// What the asks are written as. The first is made in both ways.
-fn asked(alloc: Global, request: &ClassicRequest, bytes: &[u8]) -> Result<String, AllocError>
-    requires { IsClassicReadFrom bytes.now request.now }
-{
-    let walked = walked(alloc, request, bytes)?;
-    let first = first(alloc, request, bytes)?;
-    if !walked.as_slice().starts_with(first.as_slice()) {
-        return "two first asks".to_string(alloc);
-    }
-    spelled(alloc, walked.as_slice())
-}
-
-fn asks_told(alloc: Global, bytes: &[u8]) -> Result<String, AllocError> {
-    match read_request(bytes) {
-        ClassicRead::Request(request) => asked(alloc, &request, bytes),
-        _ => spelled(alloc, b""),
-    }
-}
-
-struct OfClassic;
-
-impl Teller for OfClassic {
-    fn told(alloc: Global, example: &str) -> Result<String, AllocError> {
-        let (question, text) = halves(example, ": ");
-        let bytes = bytes_of(alloc, text)?;
-        match question {
-            "read" => read_told(alloc, bytes.as_slice()),
-            "cut" => cut_told(alloc, bytes.as_slice()),
-            _ => asks_told(alloc, bytes.as_slice()),
-        }
-    }
-}
-
 #[test]
 fn requests(rt: HostRuntime) -> Result<(), Fail> {
-    assert_eq!(rt; wrong::<OfClassic>(rt.alloc(), reads())?.as_str(), "");
-    assert_eq!(rt; wrong::<OfClassic>(rt.alloc(), spellings())?.as_str(), "");
+    all_told::<OfRequests>(rt.alloc(), reads())?;
+    all_told::<OfRequests>(rt.alloc(), spellings())?;
     Ok(())
 }

@@ -1,18 +1,9 @@
 //! Meta requests: refusals by the table, cuts, and the one spelling.
 
-ghost use Rattle.std.specs.Prelude.{◌<◌, IfOk, length};
-ghost use Rattle.wire_meta.specs.Message.{IsMetaReadFrom, meta_message_in};
-ghost use Rattle.wire_meta.specs.Asks.{meta_asks_of, IsMetaAsk};
-
-use crate::escapes::{bytes_of, spelled};
-use crate::reads::{refused, served};
-use bytes::BytesMut;
-use examples_tables::tellers::{Teller, halves, wrong};
-use mc_types::{Ask, Tokens};
-use std::alloc::{AllocError, Global};
+use crate::reads::OfRequests;
+use examples_tables::tellers::all_told;
+use std::alloc::Global;
 use std::test::Fail;
-use wire_meta::{MetaRead, MetaRequest, read_request, write_ask};
-use wire_parts::received::Received;
 
 // Bytes, and how they are read; `cut` at any place, they want more.
 fn reads() -> &'static str {
@@ -34,7 +25,7 @@ read: ms a 1 C1\r\n => more
 read:  \r\n => ERROR
 read: MG a\r\n => ERROR
 read: me a\r\n => ERROR
-read: get a\r\n => ERROR
+read: get a\r\n => served
 read: mg\r\n => ERROR
 read: md\r\n => ERROR
 read: ma\r\n => ERROR
@@ -86,98 +77,25 @@ read: mn\r\nmg a\r\n => noop, 4 used"
 // Bytes, and what they ask in its one spelling: `T`, if it has one, the ask's return flags and `O` in their order, then those of `C D F M` that
 // it has; `q` and what is left out aren't kept.
 fn spellings() -> &'static str {
-    r"asks: mg a\r\n => mg a\r\n
-asks: mg  a v Oxyz q T030 t s k f c\n => mg a T30 v Oxyz t s k f c\r\n
-asks: ms a 1\r\nx\r\n => ms a 1 T0 F0 MS\r\nx\r\n
-asks: ms a 01 T-0 Mr q k F7 Ox c\r\nx\r\n => ms a 1 T0 k Ox c F7 MR\r\nx\r\n
-asks: ms a 0 Ms C5\r\n\r\n => ms a 0 T0 C5 F0 MS\r\n\r\n
-asks: ms a 2 ME\r\n\r\n\r\n => ms a 2 T0 F0 ME\r\n\r\n\r\n
-asks: ms a 1 Ma\nx\r\n => ms a 1 T0 F0 MA\r\nx\r\n
-asks: ms a 1 Mp\nx\r\n => ms a 1 T0 F0 MP\r\nx\r\n
-asks: md a q Ox C9 k\r\n => md a Ox k C9\r\n
-asks: ma a\r\n => ma a D1 MI\r\n
-asks: ma a T60 M- D9 v C3 t\r\n => ma a T60 v t C3 D9 MD\r\n
-asks: ma a M+\r\n => ma a D1 MI\r\n
-asks: ma a Md k\r\n => ma a k D1 MD\r\n
-asks: mn\r\nmg a\r\n => 0 asks"
-}
-
-fn read_told(alloc: Global, bytes: &[u8]) -> Result<String, AllocError> {
-    match read_request(bytes) {
-        MetaRead::More => "more".to_string(alloc),
-        MetaRead::TooLong => "too long".to_string(alloc),
-        MetaRead::Request(request) => served(
-            alloc,
-            bytes.len(),
-            request.used,
-            request.own(),
-            request.quiet(),
-        ),
-        MetaRead::Refused { why, used, skip } => refused(alloc, bytes.len(), why, used, skip),
-    }
-}
-
-fn wants_more(bytes: &[u8]) -> bool {
-    matches!(read_request(bytes), MetaRead::More)
-}
-
-fn cut_told(alloc: Global, bytes: &[u8]) -> Result<String, AllocError> {
-    for end in 0..bytes.len() {
-        if !wants_more(&bytes[..end]) {
-            return "read early".to_string(alloc);
-        }
-    }
-    read_told(alloc, bytes)
-}
-
-fn first_ask(alloc: Global, request: &MetaRequest, bytes: &[u8]) -> Result<Ask, AllocError>
-    requires read { IsMetaReadFrom bytes.now request.now }
-    requires some { 0 < length (meta_asks_of (meta_message_in bytes.now request.now)) }
-    ensures { IfOk result IsMetaAsk }
-{
-    let received = Received::copied(bytes);
-    let parts = request.parts(alloc, Tokens::new(alloc), &received, 0)?;
-    Ask::of(alloc, parts)
-}
-
-// What its ask is written as, or how many it has.
-fn asked(alloc: Global, request: &MetaRequest, bytes: &[u8]) -> Result<String, AllocError>
-    requires { IsMetaReadFrom bytes.now request.now }
-{
-    let asks = request.asks();
-    if asks != 1 {
-        return format!(in alloc; "{asks} asks");
-    }
-    let ask = first_ask(alloc, request, bytes)?;
-    let mut out = BytesMut::new(alloc);
-    write_ask(&ask, &mut out)?;
-    spelled(alloc, out.as_slice())
-}
-
-fn asks_told(alloc: Global, bytes: &[u8]) -> Result<String, AllocError> {
-    match read_request(bytes) {
-        MetaRead::Request(request) => asked(alloc, &request, bytes),
-        _ => spelled(alloc, b""),
-    }
-}
-
-struct OfMeta;
-
-impl Teller for OfMeta {
-    fn told(alloc: Global, example: &str) -> Result<String, AllocError> {
-        let (question, text) = halves(example, ": ");
-        let bytes = bytes_of(alloc, text)?;
-        match question {
-            "read" => read_told(alloc, bytes.as_slice()),
-            "cut" => cut_told(alloc, bytes.as_slice()),
-            _ => asks_told(alloc, bytes.as_slice()),
-        }
-    }
+    r"ask: mg a\r\n => mg a\r\n
+ask: mg  a v Oxyz q T030 t s k f c\n => mg a T30 v Oxyz t s k f c\r\n
+ask: ms a 1\r\nx\r\n => ms a 1 T0 F0 MS\r\nx\r\n
+ask: ms a 01 T-0 Mr q k F7 Ox c\r\nx\r\n => ms a 1 T0 k Ox c F7 MR\r\nx\r\n
+ask: ms a 0 Ms C5\r\n\r\n => ms a 0 T0 C5 F0 MS\r\n\r\n
+ask: ms a 2 ME\r\n\r\n\r\n => ms a 2 T0 F0 ME\r\n\r\n\r\n
+ask: ms a 1 Ma\nx\r\n => ms a 1 T0 F0 MA\r\nx\r\n
+ask: ms a 1 Mp\nx\r\n => ms a 1 T0 F0 MP\r\nx\r\n
+ask: md a q Ox C9 k\r\n => md a Ox k C9\r\n
+ask: ma a\r\n => ma a D1 MI\r\n
+ask: ma a T60 M- D9 v C3 t\r\n => ma a T60 v t C3 D9 MD\r\n
+ask: ma a M+\r\n => ma a D1 MI\r\n
+ask: ma a Md k\r\n => ma a k D1 MD\r\n
+ask: mn\r\nmg a\r\n => 0 asks"
 }
 
 #[test]
 fn requests(rt: HostRuntime) -> Result<(), Fail> {
-    assert_eq!(rt; wrong::<OfMeta>(rt.alloc(), reads())?.as_str(), "");
-    assert_eq!(rt; wrong::<OfMeta>(rt.alloc(), spellings())?.as_str(), "");
+    all_told::<OfRequests>(rt.alloc(), reads())?;
+    all_told::<OfRequests>(rt.alloc(), spellings())?;
     Ok(())
 }

@@ -1,21 +1,19 @@
-//! What is wrong with the program's words, with an address where it is to listen, and with a script's lines: what was
-//! given, and what is expected there.
+//! What is wrong with the program's words and with a script's lines: what was given, and what is expected there.
 //!
 //! ```text
-//! arguments --> reading, names: the nearest name that there is --> WordFault --+
-//! script    --> script: the first bad line, and its trouble -------------------+--> lines of detail on standard error
-//! a configuration's text --> fault_inputs: where its fault stands -------------+
+//! arguments --> reading: the nearest name that there is --> WordFault ---------+
+//! script    --> script, script_lines: the first bad line, and its trouble -----+--> lines of detail on standard error
+//! a configuration's text --> fault_configs: where its fault stands ------------+
 //! ```
 #![tactic(auto)]
 
-pub mod address;
+mod columns;
 pub mod commands;
 pub mod fault;
-pub mod names;
 pub mod reading;
 pub mod script;
+mod script_lines;
 
-pub use address::address_trouble;
 pub use fault::WordFault;
-pub use names::nearest;
 pub use reading::{fault_in_words, key_fault_in_words};
+pub use script_lines::{lines_of_bad_line, lines_of_script};

@@ -4,7 +4,7 @@ use crate::commands::{
     COMMANDS, Command, TOLD, TOP_FLAGS, Takes, is_repeated, takes_of, words_after,
 };
 use crate::fault::{Cause, WordFault};
-use crate::names::nearest;
+use fault_configs::nearest;
 use mc_types::Key;
 use std::alloc::{AllocError, Global};
 use text_words::number::u32_number;

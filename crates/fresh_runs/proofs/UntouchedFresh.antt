@@ -345,7 +345,7 @@ module _ (words : ℕ → Ask → List Call → Answer → Option ℕ → Type 0
     reply_below (Restarts s ∷ past) n m delete item run e (inr h) = reply_below past n m delete item run.1 e h
 
     -- so a command with a greater number began after the delete was acknowledged
-    shown_later : (events : List Event) → Run words Bars opening events → (n m : ℕ) (delete : Ask) (item : Item) → n < m → IsAcknowledged events n delete → IsShown opening events m delete.key item → IsAcknowledged (before events m) n delete
+    pub shown_later : (events : List Event) → Run words Bars opening events → (n m : ℕ) (delete : Ask) (item : Item) → n < m → IsAcknowledged events n delete → IsShown opening events m delete.key item → IsAcknowledged (before events m) n delete
     shown_later [] run n m delete item lt ack shown = absurd ack
     shown_later (Begins x ask ∷ past) run n m delete item lt (inl ack) shown = absurd ack
     shown_later (Begins x ask ∷ past) run n m delete item lt (inr ack) (inl shown) = absurd shown

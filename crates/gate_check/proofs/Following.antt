@@ -97,37 +97,3 @@ pub last_is : (trees : List Route) (tree : Route) (n : ℕ) (fault : PairFault) 
 last_is trees tree n pairs.TooManyPlaces h e f = (length trees, tree, e, last_item trees tree, covering_front trees tree tree (length trees) (omega arith) h, f)
 last_is trees tree n (pairs.Uncovered gap) h e f = (length trees, tree, e, last_item trees tree, covering_front trees tree tree (length trees) (omega arith) h, f)
 last_is trees tree n pairs.NoMemory h e f = tt
-
-length_more : (xs : List Route) (t : Route) → length (xs ++ t ∷ []) ≡ length xs + 1
-length_more [] t = refl
-length_more (x ∷ xs) t = omega (arith, length_more xs t)
-
--- the next generation
-pub next_generation : (trees : List Route) (tree : Route) → AreGenerations trees → length trees < 16 → IsTree tree → AreCovering trees tree (length trees) → CoversAt tree tree → AreGenerations (trees ++ tree ∷ [])
-next_generation trees tree are few is covering own = record {
-  some = (let e = length_more trees tree in omega (arith, e));
-  few = (let e = length_more trees tree in omega (arith, e, few));
-  trees_are = each_append IsTree trees (tree ∷ []) are.trees_are (is, tt);
-  sound = λ i j a b le x y.
-      ⊎_elim
-      (λ (l : (j < length trees) × (slice_get trees j ≡ Some b)).
-      ⊎_elim
-      (λ (k : (i < length trees) × (slice_get trees i ≡ Some a)). are.sound i j a b le k.1 l.1)
-      (λ (k : (i ≡ length trees) × (tree ≡ a)). absurd (let e = k.0 in let f = l.0 in omega (arith, e, f, le)))
-      (last_or trees tree i a x))
-      (λ (r : (j ≡ length trees) × (tree ≡ b)).
-      subst (CoversAt a) r.1
-      (⊎_elim
-      (λ (k : (i < length trees) × (slice_get trees i ≡ Some a)). covering i a k.0 k.1)
-      (λ (k : (i ≡ length trees) × (tree ≡ a)). subst (λ (z : Route). CoversAt z tree) k.1 own)
-      (last_or trees tree i a x)))
-      (last_or trees tree j b y);
-}
-
--- where a configuration was added, the generations are those and its tree
-pub after_load : (configs new : List Configuration) (config : Configuration) (b : Bool) → new ≡ cond b (configs ++ config ∷ []) configs → AreGenerations (trees_of configs) → AreGenerations (trees_of configs ++ config.tree ∷ []) → AreGenerations (trees_of new)
-after_load configs new config true e h g = subst (λ (l : List Configuration). AreGenerations (trees_of l)) (sym e) (subst AreGenerations (sym (trees_more configs config)) g)
-after_load configs new config false e h g = subst (λ (l : List Configuration). AreGenerations (trees_of l)) (sym e) h
-
-pub fresh_of : GenerationsAreFresh → (trees : List Route) → AreGenerations trees → EveryRunIsFresh trees
-fresh_of law trees are = (law trees are).0

@@ -16,7 +16,7 @@ use Rattle.gate_coverage.specs.Cover.{Covers}
 use Rattle.gate_check.specs.Resolved.{resolved}
 use Rattle.gate_check.specs.Tables.{IsTable}
 use Rattle.gate_check.specs.Valid.{EachClass, IsClass, IsShaped, IsValidRow, row_at, run_at}
-use Rattle.gate_check.specs.Proposed.{AreProposed, AreValidWhereCovered, IsProposal, IsProposedBy}
+use Rattle.gate_check.specs.Proposed.{AreProposed, AreValidWhereCovered, IsProposedBy}
 use Rattle.gate_check.proofs.Resolving.{same_left}
 
 pub same_lengths : (P : Class → ClassRows → Type 0) (cs : List Class) (rs : List ClassRows) → EachClass P cs rs → length rs ≡ length cs
@@ -56,11 +56,3 @@ each_valid tree m (c ∷ cs) (r ∷ rs) are h = (valid_where_covered tree m c r 
 
 pub shaped_of : (tree : Route) (m : ℕ) (cs : List Class) (rs : List ClassRows) → EachClass (AreProposed tree m) cs rs → EachClass IsShaped cs rs
 shaped_of tree m cs rs h = each_class_weaker (AreProposed tree m) IsShaped cs rs (λ c r p. p.0) h
-
-pub is_proposal : (tree : Route) (table : PlaceTable) (certificate : Certificate) → IsTable (tree ∷ []) table → IsProposedBy tree table certificate → IsProposal tree certificate
-is_proposal tree table certificate t p = record {
-  table = table;
-  is_table = t.is_table;
-  shaped = shaped_of tree table.modulus table.classes.items certificate.classes.items p;
-  rows = each_valid tree table.modulus table.classes.items certificate.classes.items t.is_table.moduli p;
-}

@@ -47,10 +47,3 @@ AreValidWhereCovered tree modulus class rows =
     (residue : ℕ) → residue < modulus
     → Covers (tree_at_place tree (place_at class.prefix residue modulus)) (tree_at_place tree (place_at class.prefix residue modulus))
     → IsValidRow (tree_at_place tree (place_at class.prefix residue modulus)) (row_at rows residue)
-
--- the proposal: the table's classes, and each row that has no gap is valid
-pub record IsProposal (tree : Route) (certificate : Certificate) : Type 0 where
-  pub table : PlaceTable
-  pub is_table : IsTableOf (tree ∷ []) table
-  pub shaped : EachClass IsShaped table.classes.items certificate.classes.items
-  pub rows : EachClass (AreValidWhereCovered tree table.modulus) table.classes.items certificate.classes.items

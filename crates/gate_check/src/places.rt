@@ -11,5 +11,4 @@ pub mod table;
 pub mod texts;
 
 pub use making::{places, places_of_two};
-pub use proposing::propose;
 pub use table::{Certificate, Class, ClassRows, PLACE_LIMIT, PlaceFault, PlaceTable, Run};

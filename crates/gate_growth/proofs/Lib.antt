@@ -1,4 +1,3 @@
-pub mod Emptied
 pub mod Parted
 pub mod Stored
 pub mod Storing
@@ -11,7 +10,6 @@ pub mod Multiples
 pub mod Among
 pub mod Since
 pub mod Reload
-pub mod Slots
 pub mod Paging
 pub mod Naming
 pub mod Coarse

@@ -1,5 +1,5 @@
 -- One tree more is sound exactly where it may follow, at each place of all trees.
-use Rattle.std.proofs.Common.{◌≡◌, ℕ, zero, suc, ◌<◌, ◌≤◌, Bool, true, List, [], ◌∷◌, ◌++◌, length, Some, inl, inr, ⊎_elim, refl, sym, ap, ap₂, subst, arith, slice_get, take, length-append}
+use Rattle.std.proofs.Common.{◌≡◌, ℕ, zero, suc, ◌<◌, ◌≤◌, Bool, true, List, [], ◌∷◌, ◌++◌, length, Some, inl, inr, ⊎_elim, refl, sym, ap, subst, arith, slice_get, take, length-append}
 use Rattle.fresh_runs.proofs.Lists.{get_last}
 use Rattle.fresh_runs.proofs.Stamps.{get_left, get_seam}
 use Rattle.route_tree.specs.declared.place.Place.{Place}
@@ -14,8 +14,7 @@ use Rattle.gate_growth.specs.Marks.{IsTaken, IsClear, NoneLeaves, MayStandAfter}
 use Rattle.gate_growth.proofs.Marking.{get_below}
 use Rattle.gate_growth.proofs.Following.{not_left}
 use Rattle.gate_check.proofs.RowTests.{good_plain}
-use Rattle.gate_growth.specs.Grown.{IsPlaceAmong, NonePuts, AreSoundSince, plans_at, ReloadIsSound, RefinedIsKnown}
-use Rattle.gate_growth.proofs.Among.{place_of, is_among, tree_there}
+use Rattle.gate_growth.specs.Grown.{IsPlaceAmong, NonePuts, AreSoundSince, plans_at, ReloadIsSound}
 
 take_left : {A : Type 0} (xs ys : List A) (k : ℕ) → k ≤ length xs → take k (xs ++ ys) ≡ take k xs
 take_left [] [] zero le = refl
@@ -135,22 +134,3 @@ reload_is_sound arbitrary trees tree are = (
   (λ since. (sound_before arbitrary trees tree are since, may_follow arbitrary trees tree are since)),
   (λ both. sound_with arbitrary trees tree are both.0 both.1),
 )
-
--- ---- refined places
-
-same_plans : (place coarse : Place) (trees : List Route) → ((h : ℕ) (t : Route) → slice_get trees h ≡ Some t → tree_at_place t place ≡ tree_at_place t coarse) → plans_at place trees ≡ plans_at coarse trees
-same_plans place coarse [] same = refl
-same_plans place coarse (t ∷ trees) same = ap₂ (λ p ps. p ∷ ps) (same 0 t refl) (same_plans place coarse trees (λ h u e. same (suc h) u e))
-
-pub refined_is_known : RefinedIsKnown
-refined_is_known trees are place =
-    let k = length trees in
-    let hash = place.residue in
-    let text = prefix_text place.prefix in
-    let coarse = place_of trees are k hash text in
-    let all : take k trees ≡ trees = take_whole trees k (let h : length trees ≤ length trees = omega arith in h) in (
-      coarse,
-      subst (λ l. IsPlaceAmong l coarse) all (is_among trees are k hash text),
-      refl,
-      same_plans place coarse trees (λ h t e. tree_there trees are k hash text h t (get_below trees h t e) e),
-    )

@@ -1,5 +1,5 @@
 -- Sound generations, by today's rule and by this one, and what they give.
-use Rattle.std.proofs.Common.{◌≡◌, ℕ, suc, ◌%◌, ◌<◌, ◌≤◌, Bool, true, false, List, ◌++◌, length, Option, Some, None, ◌⊎◌, inl, inr, ⊎_elim, refl, sym, ap, ◌∙◌, subst, arith, slice_get, take}
+use Rattle.std.proofs.Common.{◌≡◌, ℕ, suc, ◌%◌, ◌<◌, ◌≤◌, Bool, false, List, ◌++◌, length, Option, Some, ◌⊎◌, inl, inr, ⊎_elim, refl, sym, ap, ◌∙◌, subst, arith, slice_get}
 use Rattle.std.specs.Int.{◌∣◌}
 use Rattle.mc_types.specs.declared.ask.Op.TheVariants.{Delete}
 use Rattle.mc_types.specs.declared.ask.Dialect.{Dialect}
@@ -11,7 +11,7 @@ use Rattle.mc_types.specs.Items.{Item}
 use Rattle.fresh_runs.specs.Calls.{Call}
 use Rattle.fresh_runs.specs.Cover.{TakesIn, IsCleared}
 use Rattle.fresh_runs.specs.Untouched.{KeyIsUntouched, IsCoveredOrUntouched}
-use Rattle.fresh_runs.proofs.UntouchedFresh.{fresh, fresh_by_number, runs_fresh_from}
+use Rattle.fresh_runs.proofs.UntouchedFresh.{fresh, fresh_by_number}
 use Rattle.route_tree.specs.Tag.{key_hash}
 use Rattle.route_tree.specs.Each.{Each}
 use Rattle.route_tree.specs.Plan.{Plan}
@@ -27,15 +27,12 @@ use Rattle.gate_coverage.specs.declared.deleting.Deleting.TheVariants as kinds
 use Rattle.gate_coverage.specs.Cover.{IsTaking, Covers, deleting_dialect}
 use Rattle.gate_coverage.proofs.Covering.{from_takes, copy_is_get, taking_get}
 use Rattle.gate_growth.specs.Puts.{Puts}
-use Rattle.gate_check.specs.Places.{IsClassOf, place_at, CoversAt}
-use Rattle.gate_check.specs.Valid.{all_sizes, all_prefixes}
+use Rattle.gate_check.specs.Places.{CoversAt}
 use Rattle.gate_check.proofs.Placing.{longest_of}
-use Rattle.gate_check.proofs.PlacesValidity.{in_either}
-use Rattle.gate_check.specs.Sound.{AreSound, AreLoaded}
+use Rattle.gate_check.specs.Sound.{AreLoaded}
 use Rattle.gate_growth.specs.Marks.{IsTaken, IsClear}
-use Rattle.gate_growth.specs.Grown.{IsPlaceAmong, AreSoundSince, OpensBy, SoundIsSoundSince, ArbitraryIsToday, SinceIsCovered, GrownGenerationsAreFresh, GrownRunsOfTreesAreFresh}
-use Rattle.gate_growth.proofs.Multiples.{least_exists}
-use Rattle.gate_growth.proofs.Among.{sizes_of_one, prefix_of_all, sizes_some, some_text, all_sizes_some, left_at_place, place_of, is_among, tree_there, class_of}
+use Rattle.gate_growth.specs.Grown.{AreSoundSince, OpensBy, SoundIsSoundSince, SinceIsCovered, GrownGenerationsAreFresh}
+use Rattle.gate_growth.proofs.Among.{some_text, left_at_place, place_of, is_among, tree_there, class_of}
 
 -- ---- today's rule
 
@@ -59,34 +56,6 @@ module _ (a b : Route) (is_a : IsTree a) (is_b : IsTree b) (h : CoversAt a b) (h
 pub sound_since : SoundIsSoundSince
 sound_since arbitrary trees are sound i j a b le ga gb place among server taken =
     inl (λ kind. covers_there a b (each_at IsTree trees i a are ga) (each_at IsTree trees j b are gb) (sound i j a b le ga gb) place.residue (prefix_text place.prefix) taken.0 taken.1 server taken.2 kind)
-
-class_of_all : (trees : List Route) (k i j : ℕ) (a b : Route) → i < k → j < k → slice_get trees i ≡ Some a → slice_get trees j ≡ Some b → (o : Option (List ℕ)) → IsClassOf (prefixes a ++ prefixes b) o → IsClassOf (all_prefixes (take k trees)) o
-class_of_all trees k i j a b li lj ga gb None c = tt
-class_of_all trees k i j a b li lj ga gb (Some p) c =
-    ⊎_elim (λ l. prefix_of_all trees k i a p li ga l) (λ r. prefix_of_all trees k j b p lj gb r) (in_either (prefixes a) (prefixes b) p c)
-
-module _ (trees : List Route) (are : Each IsTree trees) (since : AreSoundSince (λ _. true) trees) where
-  covers_at : AreSound trees
-  covers_at i j a b le ga gb =
-      let is_a = each_at IsTree trees i a are ga in
-      let is_b = each_at IsTree trees j b are gb in
-      let m = least_exists (sizes a ++ sizes b) (each_append (λ n. 0 < n) (sizes a) (sizes b) (sizes_some a is_a) (sizes_some b is_b)) in
-      let all = least_exists (all_sizes (take (suc j) trees)) (all_sizes_some trees (suc j) are) in
-      let li : i < suc j = omega (arith, le) in
-      let lj : j < suc j = omega arith in
-      let D : ℕ → Type 0 = λ n. n ∣ all.0 in
-      let most : m.0 ≤ all.0 = m.1.least all.0 all.1.some (each_append D (sizes a) (sizes b) (sizes_of_one D trees (suc j) i a li ga all.1.common) (sizes_of_one D trees (suc j) j b lj gb all.1.common)) in
-      record {
-        modulus = m.0;
-        least = m.1;
-        covers = λ prefix residue class below op taking server takes kind.
-            let place = place_at prefix residue all.0 in
-            let among : IsPlaceAmong (take (suc j) trees) place = record { modulus = all.1; prefix = class_of_all trees (suc j) i j a b li lj ga gb prefix class; below = omega (arith, below, most) } in
-            ⊎_elim (λ clear. clear kind) (λ other. absurd (let e = other.1 in cc)) (since i j a b le ga gb place among server (op, taking, takes));
-      }
-
-pub arbitrary_is_today : ArbitraryIsToday
-arbitrary_is_today trees are = (covers_at trees are, sound_since (λ _. true) trees are)
 
 -- ---- what they give
 
@@ -160,7 +129,3 @@ grown_are_fresh Bars arbitrary trees are since tree loaded opening opens events 
       (λ copies. fresh words Bars opening cover copies events lost run),
       (λ alone. fresh_by_number words Bars opening cover alone events lost run),
     )
-
-pub grown_runs_of_trees : GrownRunsOfTreesAreFresh
-grown_runs_of_trees arbitrary trees are since tree loaded opening opens =
-    runs_fresh_from (tree_words (λ n key. tree_at (tree n) key)) opening (is_covered arbitrary trees are since tree loaded opening opens)

@@ -1,9 +1,8 @@
 -- Generations in which a tree needn't clear a server on which no tree so far puts items. Source: mcgate's own.
-use Rattle.std.specs.Prelude.{◌≡◌, ◌↔◌, ℕ, suc, ◌%◌, ◌<◌, ◌≤◌, Bool, true, false, List, [], ◌∷◌, ◌++◌, Option, Some, None, ◌⊎◌, slice_get, take}
+use Rattle.std.specs.Prelude.{◌≡◌, ◌↔◌, ℕ, suc, ◌<◌, ◌≤◌, Bool, false, List, [], ◌∷◌, ◌++◌, Option, Some, None, ◌⊎◌, slice_get, take}
 use Rattle.mc_types.specs.declared.ask.Ask.{Ask}
 use Rattle.mc_types.specs.Items.{Item}
 use Rattle.fresh_runs.specs.Run.{Event, LosesOnly, Run, CopiesBar, AreAlone, IsFresh, IsFreshByNumber}
-use Rattle.fresh_runs.specs.Freshness.{RunsAreFreshFrom}
 use Rattle.fresh_runs.specs.Untouched.{IsCoveredOrUntouched}
 use Rattle.route_tree.specs.declared.place.Place.{Place}
 use Rattle.route_tree.specs.Each.{Each}
@@ -45,10 +44,6 @@ OpensBy arbitrary trees opening =
 abbrev pub SoundIsSoundSince : Type 0
 SoundIsSoundSince = (arbitrary : ℕ → Bool) (trees : List Route) → Each IsTree trees → AreSound trees → AreSoundSince arbitrary trees
 
--- where all servers are arbitrary, each tree clears all that it and later ones take
-abbrev pub ArbitraryIsToday : Type 0
-ArbitraryIsToday = (trees : List Route) → Each IsTree trees → AreSoundSince (λ _. true) trees ↔ AreSound trees
-
 -- what trees are at a place, in their order
 abbrev pub plans_at : Place → List Route → List Plan
 plans_at place [] = []
@@ -60,12 +55,6 @@ ReloadIsSound =
     (arbitrary : ℕ → Bool) (trees : List Route) (tree : Route) → Each IsTree (trees ++ tree ∷ [])
     → AreSoundSince arbitrary (trees ++ tree ∷ [])
     ↔ (AreSoundSince arbitrary trees × ((place : Place) → IsPlaceAmong (trees ++ tree ∷ []) place → (server : ℕ) → MayStandAfter (arbitrary server) (plans_at place trees) (tree_at_place tree place) server))
-
--- at any place of more trees, trees are what they are at a place of theirs, so that their marks there are known
-abbrev pub RefinedIsKnown : Type 0
-RefinedIsKnown =
-    (trees : List Route) → Each IsTree trees → (place : Place)
-    → (coarse : Place) × IsPlaceAmong trees coarse × (coarse.residue ≡ place.residue % coarse.modulus) × (plans_at place trees ≡ plans_at coarse trees)
 
 -- then each server that a later command takes is cleared by the delete, or was untouched
 abbrev pub SinceIsCovered : Type 0
@@ -81,13 +70,3 @@ GrownGenerationsAreFresh Bars =
     → (tree : ℕ → Route) → AreLoaded trees tree → (opening : ℕ → List ℕ → Option Item) → OpensBy arbitrary trees opening
     → (events : List Event) → LosesOnly events → Run (tree_words (λ n key. tree_at (tree n) key)) Bars opening events
     → (CopiesBar (tree_words (λ n key. tree_at (tree n) key)) Bars → IsFresh opening events) × (AreAlone Bars → IsFreshByNumber opening events)
-
--- every run of commands, each by the tree that is loaded when it begins, is fresh
-abbrev pub EveryGrownRunIsFresh : (ℕ → Bool) → List Route → Type 0
-EveryGrownRunIsFresh arbitrary trees =
-    (tree : ℕ → Route) → AreLoaded trees tree → (opening : ℕ → List ℕ → Option Item) → OpensBy arbitrary trees opening
-    → RunsAreFreshFrom (tree_words (λ n key. tree_at (tree n) key)) opening
-
--- so it is over sound generations
-abbrev pub GrownRunsOfTreesAreFresh : Type 0
-GrownRunsOfTreesAreFresh = (arbitrary : ℕ → Bool) (trees : List Route) → Each IsTree trees → AreSoundSince arbitrary trees → EveryGrownRunIsFresh arbitrary trees

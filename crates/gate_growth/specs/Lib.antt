@@ -1,5 +1,3 @@
-pub mod UntouchedLaws
-pub mod Emptied
 pub mod Puts
 pub mod PutsComputed
 pub mod Exact
@@ -7,7 +5,6 @@ pub mod Marks
 pub mod Computed
 pub mod Rows
 pub mod Grown
-pub mod Slots
 pub mod Pages
 pub mod Classes
 pub mod PlaceRows

@@ -1,8 +1,7 @@
 -- What trees may have left on a server at a place, and when another may follow them. Source: mcgate's own.
-use Rattle.std.specs.Prelude.{◌≡◌, ◌↔◌, ℕ, suc, ◌<◌, ◌≤◌, Bool, true, false, List, [], ◌∷◌, ◌++◌, length, Some, MatchOption, IsTrue, ◌⊎◌, slice_get}
+use Rattle.std.specs.Prelude.{◌≡◌, ◌↔◌, ℕ, suc, ◌<◌, Bool, true, List, length, Some, MatchOption, IsTrue, ◌⊎◌, slice_get}
 use Rattle.mc_types.specs.declared.ask.Op.{Op}
-use Rattle.route_tree.specs.Each.{Each}
-use Rattle.route_tree.specs.Plan.{Plan, IsGoodPlan}
+use Rattle.route_tree.specs.Plan.{Plan}
 use Rattle.gate_coverage.specs.declared.deleting.Deleting.{Deleting}
 use Rattle.gate_coverage.specs.Cover.{IsTaking, Takes, Clears}
 use Rattle.gate_growth.specs.Puts.{Puts}
@@ -18,12 +17,6 @@ IsClear plain server = (kind : Deleting) → Clears plain kind server
 
 -- The plain trees of generations at a place are a list, the oldest first. An arbitrary server may hold anything before the first of them.
 module _ (arbitrary : Bool) where
-  -- each server that a tree takes is cleared by it and by each tree before it; or, by one before it, needn't be, as the server isn't arbitrary and no tree up to that one puts items there
-  abbrev pub IsSoundAt : List Plan → ℕ → Type 0
-  IsSoundAt plans server =
-      (i j : ℕ) (a b : Plan) → i ≤ j → slice_get plans i ≡ Some a → slice_get plans j ≡ Some b → IsTaken b server
-      → IsClear a server ⊎ ((i < j) × (arbitrary ≡ false) × ((h : ℕ) (p : Plan) → h ≤ i → slice_get plans h ≡ Some p → Puts p server → ⊥))
-
   -- after the first n of them the server may hold an item
   abbrev pub MayHold : List Plan → ℕ → ℕ → Type 0
   MayHold plans n server = (arbitrary ≡ true) ⊎ ((h : ℕ) × (p : Plan) × (h < n) × (slice_get plans h ≡ Some p) × Puts p server)
@@ -53,13 +46,3 @@ module _ (arbitrary : Bool) where
   pub record IsMarkOf (plans : List Plan) (server : ℕ) (mark : Mark) : Type 0 where
     pub holds : IsTrue mark.held ↔ MayHold plans (length plans) server
     pub first : MatchOption mark.left (NoneLeaves plans server) (IsFirstLeft plans server)
-
--- no tree at all
-abbrev pub NoneIsSound : Type 0
-NoneIsSound = (arbitrary : Bool) (server : ℕ) → IsSoundAt arbitrary [] server
-
--- one tree more is sound exactly where it may follow those before it
-abbrev pub FollowingIsSound : Type 0
-FollowingIsSound =
-    (arbitrary : Bool) (plans : List Plan) (later : Plan) (server : ℕ) → Each IsGoodPlan plans → IsGoodPlan later
-    → IsSoundAt arbitrary (plans ++ later ∷ []) server ↔ (IsSoundAt arbitrary plans server × MayStandAfter arbitrary plans later server)

@@ -4,8 +4,7 @@
 ghost use Rattle.std.specs.Prelude.{ℕ};
 ghost use Rattle.mc_types.specs.declared.ask.Ask.{Ask};
 ghost use Rattle.fresh_runs.specs.Freshness.{nobody_bars};
-ghost use Rattle.gate_growth.specs.Grown.{SoundIsSoundSince, ArbitraryIsToday, ReloadIsSound, RefinedIsKnown, SinceIsCovered, GrownGenerationsAreFresh, GrownRunsOfTreesAreFresh};
-ghost use Rattle.gate_growth.specs.Slots.{GrowingSlotsAreSound};
+ghost use Rattle.gate_growth.specs.Grown.{SoundIsSoundSince, ReloadIsSound, SinceIsCovered, GrownGenerationsAreFresh};
 
 use std::marker::Brand;
 
@@ -23,19 +22,9 @@ pub fn sound_is_sound_since()
     ensures { SoundIsSoundSince }
 {}
 
-/// Where each server may hold anything at the beginning, each tree has to clear all that later ones take.
-pub fn arbitrary_is_today()
-    ensures { ArbitraryIsToday }
-{}
-
 /// One tree more is sound exactly where the marks of those before it let it follow, at each place of all of them.
 pub fn reload_is_sound()
     ensures { ReloadIsSound }
-{}
-
-/// At a place of more trees, the marks of those before are the ones at a place of theirs.
-pub fn refined_is_known()
-    ensures { RefinedIsKnown }
 {}
 
 /// Over sound generations each delete clears what later commands take, or nothing was put there before it.
@@ -46,15 +35,4 @@ pub fn since_is_covered()
 /// Every run over sound generations is fresh, whenever each of them was loaded.
 pub fn grown_generations_are_fresh<W: HasBars>()
     ensures { GrownGenerationsAreFresh W.bars }
-{}
-
-/// Every run over sound generations is fresh where just what copies bars deletes, and by numbers where a key has one command at a time.
-pub fn grown_runs_of_trees_are_fresh()
-    ensures { GrownRunsOfTreesAreFresh }
-{}
-
-/// A pool whose slots are given, one reload after another, to servers that began with nothing and never had these slots
-/// may grow for ever.
-pub fn growing_slots_are_sound()
-    ensures { GrowingSlotsAreSound }
 {}

@@ -10,7 +10,6 @@
 pub mod begun;
 pub mod book;
 pub mod class;
-pub mod laws;
 pub mod mark;
 pub mod named;
 pub mod page;

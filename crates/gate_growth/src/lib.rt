@@ -4,4 +4,3 @@
 pub mod laws;
 pub mod ledger;
 pub mod puts;
-pub mod runs;

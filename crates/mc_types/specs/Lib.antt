@@ -17,4 +17,3 @@ pub mod Fits
 pub mod Items
 pub mod Agree
 pub mod Wanted
-pub mod ClientAsks

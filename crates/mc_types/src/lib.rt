@@ -1,4 +1,4 @@
-//! What memcached's clients and servers say to each other: keys, asks and answers, and which asks a client can write.
+//! What memcached's clients and servers say to each other: keys, asks and answers.
 //!
 //! ```text
 //! client --bytes--> Ask --tree--> calls: Ask to a ServerId --bytes--> server
@@ -14,7 +14,6 @@
 pub mod answer;
 pub mod ask;
 pub mod ask_parts;
-pub mod asks;
 pub mod body;
 pub mod call;
 pub mod error_text;
@@ -29,7 +28,6 @@ mod wanted;
 pub use answer::{Answer, Code, Fields};
 pub use ask::{Ask, Dialect, Op};
 pub use ask_parts::AskParts;
-pub use asks::is_ask;
 pub use body::Body;
 pub use call::{Origin, Outcome, ServerId};
 pub use error_text::{ErrorText, OwnText};

@@ -3,7 +3,7 @@ use Rattle.std.proofs.Common.{◌≡◌, ℕ, List, Option, Result, sym, subst}
 use Rattle.route_json.specs.Configuration.{Configuration}
 use Rattle.gate_certificate.specs.declared.testing.Unverified.{Unverified}
 use Rattle.gate_certificate.specs.Testing.{IsUnverified}
-use Rattle.mcgate_args.specs.declared.ends.Stop.{Stop}
+use Rattle.mcgate_ends.specs.declared.ends.Stop.{Stop}
 use Rattle.mcgate.specs.declared.serve.Judged.{Judged}
 use Rattle.mcgate.specs.Certified.{JudgesBy}
 

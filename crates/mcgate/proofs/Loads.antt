@@ -1,5 +1,5 @@
 -- How an end begins, and what its core stays.
-use Rattle.std.proofs.Common.{◌≡◌, ℕ, Bool, List, [], ◌∷◌, Result, Ok, Err, refl, sym, subst, append-nil, Option}
+use Rattle.std.proofs.Common.{◌≡◌, ℕ, Bool, List, [], Result, Ok, Err, refl, sym, subst, append-nil, Option}
 use Rattle.std.specs.Prelude.{IfOk}
 use Rattle.route_json.specs.Servers.{Addresses}
 use Rattle.route_json.specs.Configuration.{Configuration}
@@ -24,12 +24,9 @@ use Rattle.serve_proxy.specs.declared.proxy.ProxyEnd.{ProxyEnd}
 use Rattle.serve_proxy.specs.Ends.{HasNoConns}
 use Rattle.serve_proxy.proofs.LogWalks.{walks_are_fresh}
 use Rattle.core_accepted.specs.declared.beginnings.Beginnings.{Beginnings}
-use Rattle.core_accepted.specs.Begun.{any_begun}
-use Rattle.core_accepted.specs.Known.{first_of}
-use Rattle.core_accepted.specs.Logs.{TreesAreSound, IsAcceptedSince}
+use Rattle.core_accepted.specs.Logs.{TreesAreSound}
 use Rattle.core_accepted.proofs.Keeping.{since_are_fresh}
-use Rattle.core_accepted.specs.LateCores.{EveryLateLogIsFresh, EveryLateRunIsFresh}
-use Rattle.core_accepted.proofs.LateCores.{late_core}
+use Rattle.core_accepted.proofs.LateCores.{late_since}
 use Rattle.serve_proxy.specs.LogsGoOn.{LogsAreFresh}
 use Rattle.mcgate.specs.declared.serve.Servable.{Servable}
 use Rattle.mcgate.specs.declared.serve.Servable.TheVariants as servables
@@ -60,27 +57,23 @@ servers_on servable known servers (Err fault) is has same = tt
 
 -- what serves is over an end that begins
 pub begins_serving :
-    {E : Type 0} (servable : Servable) (begun : Beginnings) (settings : Settings) (servers : Addresses) (end : ProxyEnd Sockets) (r : Result (Serving Sockets) E) → IfOk r (λ serving. serving.end ≡ end)
-    → BeginsToServe servable begun settings end.core.value → Agrees [] (proxy_of history_of end) → texts_of end.sockets.links.all.items ≡ servers → AreLookedUp 0 servers (history_of end.sockets.wire) → HasServers servable servers → IfOk r (λ serving. BeginsServing servable begun settings serving.end)
-begins_serving servable begun settings servers end (Ok serving) is begins agrees texts looked has =
+    (servable : Servable) (begun : Beginnings) (settings : Settings) (servers : Addresses) (end : ProxyEnd Sockets) (serving : Serving Sockets) → serving.end ≡ end
+    → BeginsToServe servable begun settings end.core.value → Agrees [] (proxy_of history_of end) → texts_of end.sockets.links.all.items ≡ servers → AreLookedUp 0 servers (history_of end.sockets.wire) → HasServers servable servers → BeginsServing servable begun settings serving.end
+begins_serving servable begun settings servers end serving is begins agrees texts looked has =
     subst (λ x. BeginsServing servable begun settings x) (sym is) (record { core = begins; agrees = agrees; servers = subst (λ (l : Addresses). HasServers servable l) (sym texts) has; looked = subst (λ (l : Addresses). AreLookedUp 0 l (history_of end.sockets.wire)) (sym texts) looked })
-begins_serving servable begun settings servers end (Err fault) is begins agrees texts looked has = tt
 
 -- an end that agreed with nothing at first agrees with all that was done since, and where the gate accepted, each log goes on by that freshly
 has_freshly : (servable : Servable) (begun : Beginnings) (settings : Settings) (steps : List Step) (a b : ServedCore) → BeginsBy servable begun settings a → Walks steps a b → LogsAreFresh b → GoFreshly servable begun steps a b
 has_freshly (servables.Accepted accepted) begun settings steps a b begins walks fresh = (begins.config, begins.last, walks_are_fresh steps a b walks fresh begins.config begun ([], begins.word))
 has_freshly (servables.Unchecked configuration) begun settings steps a b begins walks fresh = tt
 
--- on accepted trees each log and each run is fresh also where servers apply late what had failed
-late_since : (first : Configuration) (begun : Beginnings) (b : ServedCore) → TreesAreSound b → IsAcceptedSince first begun b → begun ≡ any_begun → EveryLateLogIsFresh b × EveryLateRunIsFresh b
-late_since first begun b sound is any = late_core b sound (record (first_of first begun) { configs = first ∷ is.0 }, is.1, any)
-
 -- where the gate accepted, logs go on freshly by these steps also where servers apply late, over the connections of these, what had failed
 has_freshly_late :
     (servable : Servable) (begun : Beginnings) (settings : Settings) (steps : List Step) (a b : ServedCore) → BeginsBy servable begun settings a → Walks steps a b → TellsCallsOut [] a → IsOrderly steps → TreesAreSound b
     → GoFreshlyLate servable begun steps a b
 has_freshly_late (servables.Accepted accepted) begun settings steps a b begins walks tells orderly sound =
-    λ any. walks_are_fresh_late steps a b tells orderly (late_since begins.config begun b sound (walks_keep_since steps a b walks begins.config begun ([], begins.word)) any).1
+    let fresh = late_since begins.config begun b sound (walks_keep_since steps a b walks begins.config begun ([], begins.word)) in
+    (begins.config, begins.last, λ opening opens. walks_are_fresh_late steps a b tells orderly opening (fresh.1 opening opens))
 has_freshly_late (servables.Unchecked configuration) begun settings steps a b begins walks tells orderly sound = tt
 
 -- nothing was counted at first
@@ -132,7 +125,7 @@ by_kind :
     (servable : Servable) (begun : Beginnings) (settings : Settings) (steps : List Step) (a b : ServedCore) → BeginsBy servable begun settings a → Walks steps a b → LogsAreFresh b → TreesAreSound b → StaysFresh servable begun b
 by_kind (servables.Accepted accepted) begun settings steps a b begins walks fresh sound =
     let is = walks_keep_since steps a b walks begins.config begun ([], begins.word) in
-    (begins.config, begins.last, is, since_are_fresh begins.config begun b fresh is, λ any. (late_since begins.config begun b sound is any).0)
+    (begins.config, begins.last, is, since_are_fresh begins.config begun b fresh is, (late_since begins.config begun b sound is).0)
 by_kind (servables.Unchecked configuration) begun settings steps a b begins walks fresh sound = tt
 
 pub stays_fresh :
@@ -143,9 +136,8 @@ stays_fresh servable text begun settings end served fresh sound =
 
 -- what was known of the configuration in use as the first one began
 pub used_first_on :
-    {E : Type 0} (fleet : Bool) (servable : Servable) (in_use : Option Configuration) (r : Result (Serving Sockets) E) → IfOk r (λ serving. serving.in_use ≡ in_use) → IsUsedFirst fleet servable in_use → IfOk r (λ serving. IsUsedFirst fleet servable serving.in_use)
-used_first_on fleet servable in_use (Ok serving) is first = subst (λ (x : Option Configuration). IsUsedFirst fleet servable x) (sym is) first
-used_first_on fleet servable in_use (Err fault) is first = tt
+    (fleet : Bool) (servable : Servable) (in_use : Option Configuration) (serving : Serving Sockets) → serving.in_use ≡ in_use → IsUsedFirst fleet servable in_use → IsUsedFirst fleet servable serving.in_use
+used_first_on fleet servable in_use serving is first = subst (λ (x : Option Configuration). IsUsedFirst fleet servable x) (sym is) first
 
 -- what is known of a kind of tree
 pub has_tree_on : (servable known : Servable) (tree : Route) → servable ≡ known → HasTree known tree → HasTree servable tree

@@ -8,9 +8,9 @@ use Rattle.gate_check.specs.declared.gap.Reason.{Reason}
 use Rattle.gate_certificate.specs.declared.testing.Unverified.TheVariants as ends
 use Rattle.gate_certificate.specs.Format.{rows_of_text}
 use Rattle.gate_certificate.specs.Testing.{IsCertifiedByText, IsUnverified}
-use Rattle.mcgate_check.specs.Verdict.{judged_line}
-use Rattle.mcgate_args.specs.declared.ends.Stop.{Stop}
-use Rattle.mcgate_args.specs.Program.{StopBreaksOff}
+use Rattle.mcgate_lines.specs.Verdict.{judged_line}
+use Rattle.mcgate_ends.specs.declared.ends.Stop.{Stop}
+use Rattle.mcgate_ends.specs.Ends.{StopBreaksOff}
 use Rattle.mcgate.specs.declared.serve.Servable.TheVariants as servables
 use Rattle.mcgate.specs.declared.serve.Judged.{Judged}
 use Rattle.mcgate.specs.declared.serve.Judged.TheVariants as judgements

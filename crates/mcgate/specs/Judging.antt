@@ -4,9 +4,10 @@ use Rattle.serde_json.specs.Read.{read}
 use Rattle.route_json.specs.Configs.{read_or}
 use Rattle.route_json.specs.Configuration.{Configuration}
 use Rattle.gate_check.specs.Gate.{IsCertified}
-use Rattle.mcgate_check.specs.Checking.{PrintsRefused, PrintsFault}
-use Rattle.mcgate_args.specs.declared.ends.Stop.{Stop}
-use Rattle.mcgate_args.specs.Program.{StopBreaksOff}
+use Rattle.mcgate_check.specs.Checking.{PrintsRefused}
+use Rattle.mcgate_lines.specs.Faults.{PrintsFault}
+use Rattle.mcgate_ends.specs.declared.ends.Stop.{Stop}
+use Rattle.mcgate_ends.specs.Ends.{StopBreaksOff}
 use Rattle.mcgate.specs.declared.serve.Servable.{Servable}
 use Rattle.mcgate.specs.declared.serve.Servable.TheVariants as servables
 use Rattle.mcgate.specs.declared.serve.Judged.{Judged}

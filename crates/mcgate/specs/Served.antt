@@ -1,5 +1,6 @@
 -- How a proxy that serves begins, and what it was in the end. Source: mcgate's own.
 use Rattle.std.specs.Prelude.{◌≡◌, ℕ, Bool, true, false, List, [], Option, Some, None}
+use Rattle.mc_types.specs.Items.{Item}
 use Rattle.route_json.specs.Servers.{Addresses}
 use Rattle.route_json.specs.Configuration.{Configuration}
 use Rattle.route_tree.specs.Route.{Route}
@@ -16,9 +17,8 @@ use Rattle.serve_links.specs.InOrder.{AreFreshAlong}
 use Rattle.serve_proxy.specs.declared.proxy.ProxyEnd.{ProxyEnd}
 use Rattle.serve_proxy.specs.Beginning.{BeginsFresh, BeginsUnchecked}
 use Rattle.core_accepted.specs.declared.beginnings.Beginnings.{Beginnings}
-use Rattle.core_accepted.specs.Begun.{any_begun}
-use Rattle.core_accepted.specs.Logs.{IsAcceptedSince, EveryLogSinceIsFresh}
-use Rattle.core_accepted.specs.LateCores.{EveryLateLogIsFresh}
+use Rattle.core_accepted.specs.Logs.{IsAcceptedSince, EveryLogSinceIsFresh, BeginSo}
+use Rattle.core_accepted.specs.LateCores.{EveryLateLogSinceIsFresh}
 use Rattle.serve_proxy.specs.LogsGoOn.{LogsGoFreshly}
 use Rattle.core_accepted.specs.Copying.{CopiesNothing}
 use Rattle.mcgate_serve.specs.Serves.{proxy_of, GoesOnServing}
@@ -76,9 +76,10 @@ abbrev pub GoFreshly : Servable → Beginnings → List Step → ServedCore → 
 GoFreshly (servables.Accepted accepted) begun steps first last = (configuration : Configuration) × IsLast accepted configuration × LogsGoFreshly configuration begun steps first last
 GoFreshly (servables.Unchecked configuration) begun steps first last = Unit {0}
 
--- where the gate accepted what is served, and if servers may have held anything, each such log is fresh also however late they apply what had failed, where each applies what came over a connection in its order, and nothing of it after that was closed
+-- where the gate accepted what is served, each such log is fresh also however late servers apply what had failed, if they began as is said of its configuration, and each applies what came over a connection in its order, and nothing of it after that was closed
 abbrev pub GoFreshlyLate : Servable → Beginnings → List Step → ServedCore → ServedCore → Type 0
-GoFreshlyLate (servables.Accepted accepted) begun steps first last = begun ≡ any_begun → AreFreshAlong steps first last
+GoFreshlyLate (servables.Accepted accepted) begun steps first last =
+    (configuration : Configuration) × IsLast accepted configuration × ((opening : ℕ → List ℕ → Option Item) → BeginSo configuration begun opening → AreFreshAlong opening steps first last)
 GoFreshlyLate (servables.Unchecked configuration) begun steps first last = Unit {0}
 
 -- an end that began so was served: turns and loads alone led to what it is, by them calls were late by the limits of the text in use, which was this one at first, the ends of its clients and its links agree with them, each log goes on by them freshly, and what is counted is what they are
@@ -94,9 +95,9 @@ pub record HasServed (servable : Servable) (text : List ℕ) (begun : Beginnings
   pub results : ResultsAreCounted serves.steps end.core.value.tally
   pub by_server : AreCountedByServer serves.steps end.core.value.tally
 
--- where the gate accepted what is served, the core is one on its configuration and others that it accepted after it, and each log that may have led to it is fresh, if servers began so; and if they may have held anything, also where they apply calls that had failed late, but in the order of their connections
+-- where the gate accepted what is served, the core is one on its configuration and others that it accepted after it, and each log that may have led to it is fresh, if servers began so, also where they apply calls that had failed late, but in the order of their connections
 abbrev pub StaysFresh : Servable → Beginnings → ServedCore → Type 0
 StaysFresh (servables.Accepted accepted) begun core =
     (configuration : Configuration) × IsLast accepted configuration × IsAcceptedSince configuration begun core × EveryLogSinceIsFresh configuration begun core
-    × (begun ≡ any_begun → EveryLateLogIsFresh core)
+    × EveryLateLogSinceIsFresh configuration begun core
 StaysFresh (servables.Unchecked configuration) begun core = Unit {0}

@@ -2,9 +2,10 @@
 
 use cache_tcp::CacheEnd;
 use mcgate_args::cache_arguments::CacheJob;
-use mcgate_args::details::Details;
-use mcgate_args::ends::Stop;
-use mcgate_check::status::DONE;
+use mcgate_args::details::Explaining;
+use mcgate_ends::details::Details;
+use mcgate_ends::ends::Stop;
+use mcgate_lines::status::DONE;
 use serve_wire::sockets::Sockets;
 use std::io;
 use std::net::Net;

@@ -2,9 +2,9 @@
 
 use libc::types::rlimit;
 use libc::{RLIMIT_NOFILE, getrlimit};
-use mcgate_args::serve_arguments::ServeJob;
-use mcgate_serve::events::{Field, LogEvent, Subject};
-use mcgate_serve::lines::Lines;
+use mcgate_ends::serve_job::ServeJob;
+use mcgate_notes::events::{Field, LogEvent, Subject};
+use mcgate_notes::lines::Lines;
 use watch_admin::places::PLACES;
 
 // So many descriptors are kept for what is neither a client nor a server of the configuration: the standard ones, the listener, what it

@@ -1,9 +1,10 @@
 //! Where a proxy listens: at hosts and ports, at paths of the machine, and on a socket that it was given.
 
 use crate::shared_port::{let_wait, listen_beside};
-use mcgate_args::details::Details;
-use mcgate_args::serve_arguments::ServeJob;
-use mcgate_serve::serving::resolve;
+use mcgate_args::details::Explaining;
+use mcgate_ends::details::Details;
+use mcgate_ends::serve_job::ServeJob;
+use mcgate_serve::look_ups::resolve;
 use mio::net::TcpListener;
 use serve_wire::sockets::Listener;
 use std::alloc::{AllocError, Global};

@@ -1,11 +1,11 @@
 //! A script over TCP.
 
-ghost use Rattle.mcgate_args.specs.Program.{AnswersBy, NeverOverruns, RunsText};
+ghost use Rattle.mcgate_ends.specs.Ends.{AnswersBy, NeverOverruns, RunsText};
 ghost use Rattle.mcgate_loopback.specs.Running.{RunsLoopback as RunsOverTcp};
 ghost use Rattle.mcgate.specs.OverTcp.{LoopMemoryRefused};
 
-use mcgate_args::ends::{Stop, decline, ended};
-use mcgate_args::input_text::InputFault;
+use mcgate_ends::ends::{Stop, decline, ended};
+use mcgate_ends::input_text::InputFault;
 use mcgate_loopback::run_loopback;
 use std::io::Write;
 use std::net::Net;

@@ -2,8 +2,7 @@
 
 ghost use Rattle.std.specs.Prelude.{◌≡◌, IfOk, false, [], ℕ, List, Some, slice_get, OnOk, ◌∷◌, string_bytes};
 ghost use Rattle.serve_wire.specs.Events.{looks_up};
-ghost use Rattle.serve_links.specs.Story.{HasHappened};
-ghost use Rattle.serve_links.specs.Story.{Agrees, texts_of};
+ghost use Rattle.serve_links.specs.Story.{HasHappened, Agrees, texts_of};
 ghost use Rattle.serve_proxy.specs.Ends.{HasNoConns, WireIsQuiet};
 ghost use Rattle.mcgate.specs.Judging.{JudgesToServe, JudgesText};
 ghost use Rattle.mcgate_serve.specs.LooksUp.{AreLookedUp};
@@ -13,18 +12,22 @@ ghost use Rattle.mcgate.specs.Served.{HasTree, ServesIn, IsUsedFirst, BeginsToSe
 use crate::listening::{ListenPlace, place_of};
 use crate::sharing::sharing_for;
 use gate_check::{Accepted, judge};
-use mcgate_args::details::Details;
-use mcgate_args::ends::Stop;
-use mcgate_args::fleets::members::refused_first;
-use mcgate_args::serve_arguments::ServeJob;
-use mcgate_check::checking::{print_fault, print_refused};
-use mcgate_check::status::DONE;
-use mcgate_serve::controlling::Controlling;
-use mcgate_serve::events::{Field, LogEvent, Subject};
-use mcgate_serve::folders::look_for_socket;
-use mcgate_serve::lines::Lines;
+use mcgate_args::details::Explaining;
+use mcgate_check::checking::print_refused;
+use mcgate_ends::details::Details;
+use mcgate_ends::ends::Stop;
+use mcgate_ends::fleets::members::refused_first;
+use mcgate_ends::serve_job::ServeJob;
+use mcgate_lines::faults::print_fault;
+use mcgate_lines::status::DONE;
+use mcgate_notes::controlling::Controlling;
+use mcgate_notes::events::{Field, LogEvent, Subject};
+use mcgate_notes::folders::look_for_socket;
+use mcgate_notes::lines::Lines;
+use mcgate_serve::look_ups::{resolve, tell_if_unknown};
+use mcgate_serve::operating::Operating;
 use mcgate_serve::seen::Seen;
-use mcgate_serve::serving::{Serving, resolve, tell_if_unknown};
+use mcgate_serve::serving::Serving;
 use mcgate_serve::started::Started;
 use mcgate_serve::watching::Watching;
 use route_json::addresses::{Servers, address_in};
@@ -317,6 +320,7 @@ fn open<R: Net + Clock + AllocGlobal + Eprint>(
     Ok(end_over(rt.alloc(), wire, servable, servers, job.begun, job.settings)?)
 }
 
+// What serves it, and what operates that.
 fn start<R: Net + Clock + AllocGlobal + Eprint>(
     rt: &R,
     job: &ServeJob<'_>,
@@ -326,10 +330,10 @@ fn start<R: Net + Clock + AllocGlobal + Eprint>(
     lines: Lines,
     watching: Option<Watching>,
     controlling: Option<Controlling>,
-) -> io::Result<Serving<Sockets>>
-    ensures begins { IfOk result (λ serving. BeginsServing servable job.now.begun job.now.settings serving.end) }
-    ensures in_use { IfOk result (λ serving. IsUsedFirst job.now.fleet servable serving.in_use) }
-    ensures text { IfOk result (λ serving. serving.text ≡ started.text) }
+) -> io::Result<(Serving<Sockets>, Operating)>
+    ensures begins { IfOk result (λ begun. BeginsServing servable job.now.begun job.now.settings begun.0.end) }
+    ensures in_use { IfOk result (λ begun. IsUsedFirst job.now.fleet servable begun.0.in_use) }
+    ensures text { IfOk result (λ begun. begun.0.text ≡ started.text) }
 {
     let servers = servable.servers(rt.alloc())?;
     let in_use = servable.used_first(rt.alloc(), job.fleet)?;
@@ -338,17 +342,9 @@ fn start<R: Net + Clock + AllocGlobal + Eprint>(
     let end = open(
         rt, &mut lines, &mut seen, job, listeners, servable, &servers,
     )?;
-    Serving::new(
-        rt,
-        end,
-        servers,
-        in_use,
-        started,
-        lines,
-        seen,
-        watching,
-        controlling,
-    )
+    let serving = Serving::new(end, servers, in_use, started);
+    let operating = Operating::new(rt, &serving, lines, seen, watching, controlling)?;
+    Ok((serving, operating))
 }
 
 /// Serves a configuration to those who come to these listeners, which starts so, and tells it; who asks for numbers gets them, and who
@@ -361,8 +357,8 @@ fn start<R: Net + Clock + AllocGlobal + Eprint>(
 ///
 /// Where the gate accepted the configuration, servers held at first what the job says, and nobody else wrote them, no command that began after a delete of
 /// its key was acknowledged showed an item of a store that was over when the delete began (`served` says so of each log that goes on by just these calls,
-/// `fresh` of each that may have led to the core in the end). If servers may have held anything, that is so also where they applied late what had failed,
-/// each in the order of its connections.
+/// `fresh` of each that may have led to the core in the end). That is so also where servers applied late what had failed, each in the order of its
+/// connections.
 ///
 /// Each server has the limits that its pools say in the text in use, which is `started`'s at first, and the settings' where they say none: by these each
 /// late call was late, and each connection that was given up had its time (`served`).
@@ -383,7 +379,7 @@ pub fn serve_to_end<R: Files + Input + Net + Clock + AllocGlobal + Print + Eprin
     ensures served { IfOk result (λ ended. HasServed servable (string_bytes started.text) job.now.begun job.now.settings ended.0.end) }
     ensures fresh { IfOk result (λ ended. StaysFresh servable job.now.begun ended.0.end.core.value) }
 {
-    let mut serving = start(
+    let (mut serving, mut operating) = start(
         rt,
         job,
         listeners,
@@ -393,7 +389,7 @@ pub fn serve_to_end<R: Files + Input + Net + Clock + AllocGlobal + Print + Eprin
         watching,
         controlling,
     )?;
-    let ended = serving.tell_and_run(rt, job);
+    let ended = serving.tell_and_run(rt, &mut operating, job);
     serving.logs_are_fresh();
     Ok((serving, ended))
 }

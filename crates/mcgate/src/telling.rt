@@ -1,8 +1,8 @@
 //! `mcgate tell`: a proxy that runs is told something, and what it answers is printed.
 
-use mcgate_args::details::Details;
-use mcgate_args::ends::Stop;
 use mcgate_args::tell_arguments::TellJob;
+use mcgate_ends::details::Details;
+use mcgate_ends::ends::Stop;
 use std::alloc::{AllocError, Global};
 use std::io;
 use std::io::{Read, Write};

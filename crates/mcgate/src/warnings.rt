@@ -1,8 +1,8 @@
 //! What is said of a configuration before it is served.
 
-use fault_inputs::lines_of_warnings;
-use mcgate_serve::events::{Field, LogEvent, Subject};
-use mcgate_serve::lines::Lines;
+use fault_configs::lines_of_warnings;
+use mcgate_notes::events::{Field, LogEvent, Subject};
+use mcgate_notes::lines::Lines;
 
 /// Says on standard error which names stand twice in an object, and which pools no route names. Where memory is refused nothing is said.
 pub fn say_warnings<R: AllocGlobal + Eprint>(rt: &R, lines: &mut Lines, file: &str, text: &str) {

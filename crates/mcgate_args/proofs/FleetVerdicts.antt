@@ -5,11 +5,11 @@ use Rattle.serde_json.specs.Read.{read}
 use Rattle.route_json.specs.Configs.{read_or, read_after}
 use Rattle.route_json.specs.Configuration.{Configuration}
 use Rattle.route_json.specs.Servers.{Addresses}
-use Rattle.mcgate_check.specs.Checking.{PrintsFault, StopsUnwritten}
-use Rattle.mcgate_check.specs.declared.status.RunFault.{RunFault}
-use Rattle.mcgate_check.specs.declared.status.RunFault.TheVariants.{NoMemory, Writer, TooManyCalls}
+use Rattle.mcgate_lines.specs.Faults.{PrintsFault, StopsUnwritten}
+use Rattle.mcgate_lines.specs.declared.status.RunFault.{RunFault}
+use Rattle.mcgate_lines.specs.declared.status.RunFault.TheVariants.{NoMemory, Writer, TooManyCalls}
 use Rattle.mcgate_args.specs.Fleets.{JudgesAlone, ChecksAlone, FindsRefused, AreRead, AddsRead, TextIsAccepted}
-use Rattle.mcgate_args.specs.declared.fleets.checking.FleetFile.{FleetFile}
+use Rattle.mcgate_ends.specs.declared.fleets.faults.FleetFile.{FleetFile}
 use Rattle.mcgate_args.specs.declared.fleets.checking.FleetEnd.{FleetEnd}
 
 -- ---- by itself

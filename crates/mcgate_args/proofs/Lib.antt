@@ -1,3 +1,2 @@
 pub mod FleetVerdicts
-pub mod InputLemmas
 pub mod StopLemmas

@@ -7,7 +7,7 @@ use Rattle.fault_words.specs.Finding.{IsWrong, FindsBadLine}
 use Rattle.fault_words.specs.declared.script.finding.BadLine.{BadLine}
 use Rattle.mcgate_args.specs.declared.arguments.Task.{Task}
 use Rattle.mcgate_args.specs.declared.arguments.Task.TheVariants as tasks
-use Rattle.mcgate_args.specs.declared.input_text.reading.InputFault.{InputFault}
+use Rattle.mcgate_ends.specs.declared.input_text.reading.InputFault.{InputFault}
 
 -- what is found in an input is found so in its text; in one that was not read nothing is
 abbrev pub FindsBy : (List ℕ → Option BadLine → Type 0) → Result (String Global) InputFault → Option BadLine → Type 0

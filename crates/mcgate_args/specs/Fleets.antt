@@ -1,5 +1,5 @@
 -- What is printed of the configurations of a fleet. Source: mcgate's own.
-use Rattle.std.specs.Prelude.{◌≡◌, ℕ, ◌+◌, ◌≤◌, ◌⊎◌, List, [], ◌∷◌, ◌++◌, Option, Some, None, Ok, IsSome, length, slice_get, string_bytes}
+use Rattle.std.specs.Prelude.{◌≡◌, ℕ, ◌+◌, ◌≤◌, ◌⊎◌, List, [], ◌∷◌, ◌++◌, Option, Some, None, Ok, IsSome, length, string_bytes}
 use Rattle.std.specs.Io.KnownBytes.{Appends}
 use Rattle.serde_json.specs.Read.{read}
 use Rattle.route_tree.specs.Each.{Each}
@@ -8,7 +8,6 @@ use Rattle.route_json.specs.Fault.{fault_of}
 use Rattle.route_json.specs.Configs.{read_or, read_after}
 use Rattle.route_json.specs.Configuration.{Configuration}
 use Rattle.route_json.specs.Servers.{Addresses}
-use Rattle.gate_check.specs.declared.gap.Gap.{Gap}
 use Rattle.gate_check.specs.declared.gap.Reason.{Reason}
 use Rattle.gate_check.specs.declared.reloading.TheConstants.{MOST_GENERATIONS}
 use Rattle.gate_check.specs.Gate.{IsCertified}
@@ -16,13 +15,14 @@ use Rattle.gate_check.specs.Sound.{trees_of}
 use Rattle.core_accepted.specs.declared.fleets.gates.judging.FleetFault.{FleetFault}
 use Rattle.core_accepted.specs.declared.fleets.gates.judging.FleetFault.TheVariants as faults
 use Rattle.core_accepted.specs.FleetGate.{AreSideBySide, IsFleetFault}
-use Rattle.script_events.specs.Printed.{config_fault_line}
-use Rattle.mcgate_check.specs.declared.reporting.Form.TheVariants.{Lines}
+use Rattle.mcgate_lines.specs.Faults.{config_fault_line}
+use Rattle.mcgate_lines.specs.declared.verdict.Form.TheVariants.{Lines}
 use Rattle.mcgate_check.specs.Checking.{ChecksRefused}
 use Rattle.mcgate_check.specs.Reporting.{Checks}
-use Rattle.mcgate_args.specs.declared.fleets.checking.FleetFile.{FleetFile}
+use Rattle.mcgate_ends.specs.declared.fleets.faults.FleetFile.{FleetFile}
 use Rattle.mcgate_args.specs.declared.fleets.checking.FleetEnd.{FleetEnd}
-use Rattle.mcgate_args.specs.FleetLines.{fleet_line, many_files_line, many_places_line, pair_gap_line, copying_line}
+use Rattle.mcgate_ends.specs.FleetLines.{fleet_line, many_files_line}
+use Rattle.mcgate_ends.specs.FleetFaults.{fleet_fault_line}
 
 -- the gate accepts the configuration, and nothing was written; or it refuses it, and that was written
 abbrev pub JudgesAlone : Configuration → Option (List ℕ) → Option (List ℕ) → Option ℕ → Type 0
@@ -55,29 +55,6 @@ AreRead servers (file ∷ files) (config ∷ configs) = (read_after servers (rea
 -- the configurations of the files were added
 abbrev pub AddsRead : Addresses → List FleetFile → List Configuration → List Configuration → Type 0
 AddsRead servers files old new = (configs : List Configuration) × (new ≡ old ++ configs) × AreRead servers files configs
-
--- how a file is called
-abbrev pub name_of : Option FleetFile → List ℕ
-name_of None = []
-name_of (Some file) = file.name.now
-
-abbrev pub name_at : List FleetFile → ℕ → List ℕ
-name_at files index = name_of (slice_get files index)
-
-abbrev pub copying_line_of : (file : List ℕ) → Option (List ℕ) → Option Configuration → List ℕ
-copying_line_of file prefix None = []
-copying_line_of file prefix (Some config) = copying_line file config.tree prefix
-
-abbrev pub gap_line_of : (reads deletes : List ℕ) → Gap → Option Configuration → List ℕ
-gap_line_of reads deletes gap None = []
-gap_line_of reads deletes gap (Some config) = pair_gap_line config.servers reads deletes gap
-
--- the line of a fault; running out of memory has none
-abbrev pub fleet_fault_line : List FleetFile → List Configuration → FleetFault → List ℕ
-fleet_fault_line files configs (faults.Copies index prefix) = copying_line_of (name_at files index) prefix (slice_get configs index)
-fleet_fault_line files configs (faults.TooManyPlaces reads deletes) = many_places_line (name_at files reads) (name_at files deletes)
-fleet_fault_line files configs (faults.Uncovered reads deletes gap) = gap_line_of (name_at files reads) (name_at files deletes) gap (slice_get configs reads)
-fleet_fault_line files configs faults.NoMemory = []
 
 -- a fault that has a line
 abbrev pub IsToldFault : FleetFault → Type 0

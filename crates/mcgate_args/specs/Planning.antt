@@ -4,7 +4,7 @@ use Rattle.core_accepted.specs.declared.beginnings.Beginnings.{Beginnings}
 use Rattle.gate_plan.specs.Plans.{IsPlanFrom}
 use Rattle.gate_plan.specs.declared.told.Planned.{Planned}
 use Rattle.gate_plan.specs.declared.told.Planned.TheVariants as plans
-use Rattle.mcgate_args.specs.declared.ends.Stop.{Stop}
+use Rattle.mcgate_ends.specs.declared.ends.Stop.{Stop}
 
 -- 0 where the change may be made at once, 1 where it may not, 2 where there is no configuration
 abbrev pub planned_status : Planned → ℕ

@@ -1,43 +1,19 @@
 -- Why the program stops, what it prints of that on standard error, and its exit statuses. Source: mcgate's own.
-use Rattle.std.specs.Prelude.{◌≡◌, ℕ, ◌≤◌, ◌++◌, List, codes, decimal, Option, Some, None, Result, Ok, Err}
-use Rattle.std.specs.declared.io.ErrorKind.{ErrorKind}
-use Rattle.std.specs.declared.io.ErrorKind.TheVariants as io_kinds
+use Rattle.std.specs.Prelude.{ℕ, ◌++◌, List, codes, decimal, Option, Some, None, Result, Ok, Err}
 use Rattle.clap.specs.declared.error.ErrorKind.{ErrorKind as RefusalKind}
 use Rattle.clap.specs.declared.error.ErrorKind.TheVariants as refusal_kinds
 use Rattle.script_events.specs.Limits.{last_turn}
 use Rattle.mc_types.specs.declared.key.KeyFault.{KeyFault}
 use Rattle.mc_types.specs.declared.key.KeyFault.TheVariants as keys
-use Rattle.mcgate_check.specs.declared.status.RunFault.{RunFault}
-use Rattle.mcgate_check.specs.declared.status.RunFault.TheVariants as runs
 use Rattle.mcgate_args.specs.declared.arguments.ArgumentsFault.{ArgumentsFault}
 use Rattle.mcgate_args.specs.declared.arguments.ArgumentsFault.TheVariants as arguments
-use Rattle.mcgate_args.specs.declared.ends.Stop.{Stop}
-use Rattle.mcgate_args.specs.declared.ends.Stop.TheVariants as stops
+use Rattle.mcgate_ends.specs.declared.ends.Stop.{Stop}
+use Rattle.mcgate_ends.specs.declared.ends.Stop.TheVariants as stops
 
 -- what a refusal of the arguments means: memory was refused, or the program has no such arguments
 abbrev pub arguments_fault_at : RefusalKind → ArgumentsFault
 arguments_fault_at refusal_kinds.OutOfMemory = arguments.NoMemory
 arguments_fault_at _ = arguments.Refused
-
--- what a device's error means for the program
-abbrev pub stop_at : ErrorKind → Stop
-stop_at io_kinds.OutOfMemory = stops.Memory
-stop_at _ = stops.Device
-
--- what a run that was broken off means for the program
-abbrev pub stop_by : RunFault → Stop
-stop_by runs.NoMemory = stops.Memory
-stop_by runs.Writer = stops.Device
-stop_by runs.TooManyCalls = stops.Calls
-
--- what the answer of a run means for the program: it is the exit status, or a stop of its own
-abbrev pub EndsProgram : ℕ → Result ℕ Stop → Type 0
-EndsProgram answer (Ok status) = (status ≡ answer) × (answer ≤ 2)
-EndsProgram answer (Err stops.Usage) = ⊥
-EndsProgram answer (Err (stops.Key fault)) = ⊥
-EndsProgram answer (Err stops.Memory) = answer ≡ 3
-EndsProgram answer (Err stops.Device) = answer ≡ 4
-EndsProgram answer (Err stops.Calls) = answer ≡ 5
 
 -- what a fault of the arguments means for the program
 abbrev pub stop_of : ArgumentsFault → Stop

@@ -4,8 +4,8 @@ ghost use Rattle.std.specs.Prelude.{IfOk};
 ghost use Rattle.mcgate_args.specs.BadLines.{FindsInTask, FindsInEvents};
 
 use crate::arguments::Task;
-use crate::input_text::InputFault;
 use fault_words::script::{BadLine, bad_line_in_events, bad_line_in_script};
+use mcgate_ends::input_text::InputFault;
 use route_json::Config;
 use std::alloc::{AllocError, Global};
 

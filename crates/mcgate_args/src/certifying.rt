@@ -1,11 +1,12 @@
 //! How `mcgate certify` ends.
 
 ghost use Rattle.mcgate_check.specs.Certifying.{Certifies};
-ghost use Rattle.mcgate_args.specs.Program.{AnswersBy, NeverOverruns, RunsText, WritesNothing};
+ghost use Rattle.mcgate_args.specs.Program.{WritesNothing};
+ghost use Rattle.mcgate_ends.specs.Ends.{AnswersBy, NeverOverruns, RunsText};
 
-use crate::ends::{Stop, decline, ended};
-use crate::input_text::InputFault;
 use mcgate_check::certifying::run_certify;
+use mcgate_ends::ends::{Stop, decline, ended};
+use mcgate_ends::input_text::InputFault;
 use std::alloc::Global;
 use std::io::Write;
 

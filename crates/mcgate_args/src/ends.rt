@@ -1,63 +1,23 @@
 //! How the program ends: what it prints on which stream, and its exit statuses.
 
-ghost use Rattle.std.specs.Prelude.{◌≡◌, ◌≤◌, Ok, option_map};
+ghost use Rattle.std.specs.Prelude.{◌≡◌, Ok, option_map};
 ghost use Rattle.script_events.specs.Told.{told_over};
-ghost use Rattle.std.specs.IoError.{error_kind};
-ghost use Rattle.mcgate_args.specs.Program.{AnswersTask, RunsTask, AnswersInput, RunsText, AnswersBy, NeverOverruns, SaysNothing, Declines, GivesConfig, ReadsConfig};
+ghost use Rattle.mcgate_args.specs.Program.{AnswersTask, RunsTask, AnswersInput, GivesConfig, ReadsConfig};
+ghost use Rattle.mcgate_ends.specs.Ends.{RunsText, AnswersBy, NeverOverruns, SaysNothing};
 ghost use Rattle.mcgate_replay.specs.Replay.{ReplaysOver, Overran, IsBrokenOff as IsCutShort};
-ghost use Rattle.mcgate_check.specs.Finding.{FindsKeys};
-ghost use Rattle.mcgate_args.specs.Stops.{stop_at, stop_by, stop_of, key_fault_line, calls_line, EndsProgram, exit_of};
+ghost use Rattle.mcgate_lines.specs.Finding.{FindsKeys};
+ghost use Rattle.mcgate_args.specs.Stops.{stop_of, key_fault_line, calls_line, exit_of};
 
 use crate::arguments::{ArgumentsFault, Task};
-use crate::input_text::InputFault;
 use mc_types::{Key, KeyFault};
-use mcgate_check::checking::print_fault;
-use mcgate_check::key_places::run_where;
-use mcgate_check::status::{BAD_INPUT, NO_MEMORY, TOO_MANY_CALLS, WRITER};
-use mcgate_check::{RunFault, run_check};
+use mcgate_check::run_check;
+use mcgate_ends::ends::{Stop, decline, ended, find_in_text};
+use mcgate_ends::input_text::InputFault;
+use mcgate_lines::faults::print_fault;
 use mcgate_replay::{Judging, run_replay, run_replay_over};
 use route_json::{Config, read_config};
 use std::alloc::Global;
-use std::io;
-use std::io::{ErrorKind, Write};
-
-/// Why the program ends with a line on standard error.
-#[derive(Clone, Copy)]
-pub enum Stop {
-    /// It has no such arguments.
-    Usage,
-    /// An argument that is to be a key is none.
-    Key(KeyFault),
-    /// Memory was refused.
-    Memory,
-    /// A device failed.
-    Device,
-    /// A script had more calls than are counted.
-    Calls,
-}
-
-impl From<io::Error> for Stop {
-    ghost from_gives = { λ error stop. stop ≡ stop_at (error_kind error) };
-
-    fn from(error: io::Error) -> Stop {
-        match error.kind() {
-            ErrorKind::OutOfMemory => Stop::Memory,
-            _ => Stop::Device,
-        }
-    }
-}
-
-impl From<RunFault> for Stop {
-    ghost from_gives = { λ fault stop. stop ≡ stop_by fault };
-
-    fn from(fault: RunFault) -> Stop {
-        match fault {
-            RunFault::NoMemory => Stop::Memory,
-            RunFault::Writer => Stop::Device,
-            RunFault::TooManyCalls => Stop::Calls,
-        }
-    }
-}
+use std::io::Write;
 
 impl From<ArgumentsFault> for Stop {
     ghost from_gives = { λ fault stop. stop ≡ stop_of fault };
@@ -130,19 +90,6 @@ pub fn end_of(ended: Result<u8, Stop>) -> ProgramEnd
     }
 }
 
-/// What the answer of a run means for the program.
-pub fn ended(answer: u8) -> Result<u8, Stop>
-    requires { answer ≤ 5 }
-    ensures { EndsProgram answer result }
-{
-    match answer {
-        NO_MEMORY => Err(Stop::Memory),
-        WRITER => Err(Stop::Device),
-        TOO_MANY_CALLS => Err(Stop::Calls),
-        status => Ok(status),
-    }
-}
-
 // What a task answers of a text.
 fn answer<W: Write>(alloc: Global, task: Task, text: &str, out: &mut W) -> u8
     ensures { AnswersTask task text.now (W.contents out.old) (W.contents out.new) result }
@@ -157,24 +104,6 @@ fn run_text<W: Write>(alloc: Global, task: Task, text: &str, out: &mut W) -> Res
     ensures { RunsTask task text.now (W.contents out.old) (W.contents out.new) result }
 {
     ended(answer(alloc, task, text, out))
-}
-
-/// Prints why an input was not taken, unless memory or a device failed.
-pub fn decline<W: Write>(fault: InputFault, out: &mut W) -> Result<u8, Stop>
-    ensures { Declines fault (W.contents out.old) (W.contents out.new) result }
-{
-    match fault {
-        InputFault::TooLarge => {
-            writeln!(out, "input: too large")?;
-            Ok(BAD_INPUT)
-        }
-        InputFault::NotUtf8 => {
-            writeln!(out, "input: not UTF-8")?;
-            Ok(BAD_INPUT)
-        }
-        InputFault::NoMemory => Err(Stop::Memory),
-        InputFault::Device => Err(Stop::Device),
-    }
 }
 
 /// Does the task with an input, or prints why it is none. The answer is the exit status where all that was to be printed was written.
@@ -194,18 +123,6 @@ pub fn run_input<W: Write>(
         Ok(text) => run_text(alloc, task, text.as_str(), out),
         Err(fault) => decline(*fault, out),
     }
-}
-
-/// Prints where the keys live in the tree of a text, or its first fault. The answer and the faults are as those of [`run_input`].
-pub fn find_in_text<W: Write>(
-    alloc: Global,
-    keys: &[Key],
-    text: &str,
-    out: &mut W,
-) -> Result<u8, Stop>
-    ensures { RunsText (λ text old new status. FindsKeys text keys.now old new status) SaysNothing NeverOverruns text.now (W.contents out.old) (W.contents out.new) result }
-{
-    ended(run_where(alloc, text, keys, out))
 }
 
 /// Prints where the keys live in the tree of an input, or why it is no input. The answer and the faults are as those of

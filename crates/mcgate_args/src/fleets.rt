@@ -2,8 +2,6 @@
 
 pub mod arguments;
 pub mod checking;
-pub mod lines;
-pub mod members;
 
 pub use arguments::FleetJob;
-pub use checking::{FleetEnd, FleetFile, run_fleet};
+pub use checking::{FleetEnd, run_fleet};

@@ -3,10 +3,10 @@
 ghost use Rattle.std.specs.Prelude.{◌≡◌};
 ghost use Rattle.mcgate_args.specs.Planning.{PlansTexts, planned_status};
 
-use crate::ends::Stop;
 use core_accepted::Beginnings;
 use gate_plan::{Planned, write_plan_from};
-use mcgate_check::status::{BAD_INPUT, DONE, REFUSED};
+use mcgate_ends::ends::Stop;
+use mcgate_lines::status::{BAD_INPUT, DONE, REFUSED};
 use std::alloc::Global;
 use std::io::Write;
 

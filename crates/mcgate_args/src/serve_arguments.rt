@@ -2,63 +2,12 @@
 
 use crate::arguments::{ArgumentsFault, Job, count_of, texts_of};
 use crate::beginning_arguments::{begun_of, flushes_new};
-use crate::log_arguments::{Log, log_of};
+use crate::log_arguments::log_of;
 use clap::ArgMatches;
 use core_accepted::Beginnings;
+use mcgate_ends::ServeJob;
 use serve_links::{ServerDialect, Settings, VersionText};
 use std::alloc::{AllocError, Global};
-
-/// What `mcgate serve` is to do.
-#[derive(Clone, Copy)]
-pub struct ServeJob<'a> {
-    /// The file of the configuration.
-    pub file: &'a str,
-    /// Where to listen: a host and a port, `unix:` and a path, or `fd:0`, standard input; or several of these with a comma between two.
-    pub listen: &'a str,
-    /// The mode of the file at that path.
-    pub unix_mode: u32,
-    /// So many connections may wait to be accepted where it listens at a host and a port.
-    pub tcp_backlog: u32,
-    /// Others of a fleet may listen at the same host and port.
-    pub reuse_port: bool,
-    /// Where to listen for who asks for numbers over HTTP.
-    pub metrics: Option<&'a str>,
-    /// The path of the socket at which it is told things.
-    pub control: Option<&'a str>,
-    /// How lines on standard error are written, if not as they are.
-    pub log: Option<Log>,
-    /// When it drains, it ends after so many milliseconds at most.
-    pub drain_ms: u64,
-    /// It drains once standard input has ended.
-    pub drain_on_eof: bool,
-    pub settings: Settings,
-    /// After so many seconds in which a server's host acknowledged nothing its connection has ended.
-    pub keepalive_s: u32,
-    /// After so many seconds a server's name is looked up again.
-    pub resolve_s: u32,
-    /// How servers began.
-    pub begun: Beginnings,
-    /// A tree that the gate refuses is served too.
-    pub any: bool,
-    /// It is one of several before the same servers: by its trees no get copies, and each is judged both ways beside the one before it.
-    pub fleet: bool,
-    /// The file of a certificate, by which the tree is accepted at the start.
-    pub certificate: Option<&'a str>,
-    /// The file of what is remembered from one run to the next, if there is one.
-    pub history: Option<&'a str>,
-    /// Nothing is served: it ends once all that is tested at the start was tested.
-    pub check: bool,
-    /// A client is closed that takes nothing for so many milliseconds.
-    pub stall_ms: u64,
-    /// So many bytes are to be sent to all clients at most.
-    pub memory: usize,
-    /// After so many turns the file is read again.
-    pub reload_every: Option<u32>,
-    /// After so many milliseconds the file is read again.
-    pub reload_ms: Option<u32>,
-    /// After so many turns it ends; without a number it doesn't.
-    pub turns: Option<u32>,
-}
 
 // How many milliseconds a client may take nothing.
 const STALL_MS: u64 = 10_000;
@@ -98,8 +47,9 @@ opens, fails or comes back.
   --connect-ms N         so has a connection to a server that takes longer to stand, 1000
   --fail-limit N         the calls of a server that failed so many times in a row fail at once, 3
   --retry-ms N           for so long, and then one call tries, 1000
-  --stores-wait          a set, add, replace or cas that a server was asked is awaited however long it takes, with all behind it; once
-                         it took too long further calls fail at once
+  --stores-wait          what may put or change an item (a set, add, replace, append, prepend, cas, incr, decr, ms or ma) that a server
+                         was asked is awaited however long it takes, with all behind it; once it took too long further calls fail at
+                         once
   --give-up-ms N         a server's connection is kept for so long while late answers are to come; without it, until it ends
   --keepalive-s N        a server's connection has ended once its host has acknowledged nothing for so many seconds, 60
   --resolve-s N          servers' names are looked up again after so many seconds, and after a failure; a name that leads to another

@@ -1,9 +1,9 @@
 //! The arguments of `mcgate tell`, and what they ask for.
 
 use crate::arguments::{ArgumentsFault, Job};
-use crate::log_arguments::level_of;
 use clap::ArgMatches;
 use mc_types::Key;
+use mcgate_ends::logs::level_of;
 
 /// What `mcgate tell` is to do.
 #[derive(Clone, Copy)]

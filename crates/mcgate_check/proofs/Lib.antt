@@ -9,4 +9,3 @@ pub mod Statuses
 pub mod Runs
 pub mod RunLines
 pub mod Proposed
-pub mod InOrder

@@ -6,11 +6,11 @@ use Rattle.gate_check.specs.declared.places.table.PlaceTable.{PlaceTable}
 use Rattle.gate_check.specs.Gate.{IsCertified}
 use Rattle.gate_check.specs.Sound.{IsLast}
 use Rattle.gate_check.specs.Tables.{IsTable}
-use Rattle.mcgate_check.specs.Checking.{StopsUnwritten, fault_answer}
+use Rattle.mcgate_lines.specs.Faults.{StopsUnwritten, fault_answer}
 use Rattle.mcgate_check.specs.Reporting.{Checks, ReportsConfig}
-use Rattle.mcgate_check.specs.declared.reporting.Form.{Form}
-use Rattle.mcgate_check.specs.declared.status.RunFault.{RunFault}
-use Rattle.mcgate_check.specs.declared.status.RunFault.TheVariants.{NoMemory, Writer, TooManyCalls}
+use Rattle.mcgate_lines.specs.declared.verdict.Form.{Form}
+use Rattle.mcgate_lines.specs.declared.status.RunFault.{RunFault}
+use Rattle.mcgate_lines.specs.declared.status.RunFault.TheVariants.{NoMemory, Writer, TooManyCalls}
 
 config_status : (form : Form) (text : List ℕ) (config : Configuration) (old new : Option (List ℕ)) (status : ℕ) → ReportsConfig form text config old new status → status ≤ 1
 config_status form text config old new status (inl accepted) = let e = accepted.0 in omega (arith, e)

@@ -6,7 +6,8 @@ use Rattle.route_tree.specs.Route.{Route}
 use Rattle.route_json.specs.Configs.{read_or}
 use Rattle.route_json.specs.Configuration.{Configuration}
 use Rattle.gate_certificate.specs.Testing.{IsCertifiedByText}
-use Rattle.mcgate_check.specs.Checking.{PrintsFault, PrintsRefused}
+use Rattle.mcgate_check.specs.Checking.{PrintsRefused}
+use Rattle.mcgate_lines.specs.Faults.{PrintsFault}
 
 -- the text of a certificate that is valid for the tree was written, and a line's end
 pub record WritesCertificate (tree : Route) (old new : Option (List ℕ)) : Type 0 where

@@ -1,11 +1,9 @@
 -- What is printed of a configuration that is accepted or refused, and of a text that is none. Source: mcgate's own.
-use Rattle.std.specs.Prelude.{◌≡◌, ℕ, ◌⊎◌, List, [], ◌∷◌, ◌++◌, Option, Some, None, Result, IsSome, map}
+use Rattle.std.specs.Prelude.{◌≡◌, ℕ, ◌⊎◌, List, [], ◌∷◌, ◌++◌, Option, Some, None, Result, map}
 use Rattle.std.specs.Io.KnownBytes.{Appends}
 use Rattle.serde_json.specs.Read.{read}
 use Rattle.route_tree.specs.Route.{Route}
 use Rattle.route_json.specs.declared.fault.ConfigFault.{ConfigFault}
-use Rattle.route_json.specs.Fault.{Fails, fault_of}
-use Rattle.route_json.specs.Configs.{read_or}
 use Rattle.route_json.specs.Configuration.{Configuration}
 use Rattle.gate_check.specs.declared.places.table.PlaceTable.{PlaceTable}
 use Rattle.gate_check.specs.Tables.{IsTable, row_count}
@@ -18,12 +16,11 @@ use Rattle.script_events.specs.Scripted.{Scripted, scripted_of}
 use Rattle.mcgate_check.specs.Refusals.{IsRefusalRun, MayLack}
 use Rattle.script_events.specs.FirstLine.{WhyNot, TellsFault}
 use Rattle.script_events.specs.Told.{Told}
-use Rattle.script_events.specs.Printed.{config_fault_line}
+use Rattle.mcgate_lines.specs.Faults.{config_fault_line}
 use Rattle.script_events.specs.ScriptLines.{script_lines}
 use Rattle.script_events.specs.LineLaws.{AreReadBack}
-use Rattle.mcgate_check.specs.Verdict.{accepted_line, judged_line}
-use Rattle.mcgate_check.specs.declared.status.RunFault.{RunFault}
-use Rattle.mcgate_check.specs.declared.status.RunFault.TheVariants.{NoMemory, Writer, TooManyCalls}
+use Rattle.mcgate_lines.specs.Verdict.{accepted_line, judged_line}
+use Rattle.mcgate_lines.specs.declared.status.RunFault.TheVariants.{NoMemory}
 
 -- the tree's table of places has so many
 abbrev pub TreeHasPlaces : Route → ℕ → Type 0
@@ -87,31 +84,6 @@ pub record ChecksRefused (config : Configuration) (reason : Reason) (old new : O
 pub record ChecksFound (config : Configuration) (reason : Reason) (found : Option Script) (old new : Option (List ℕ)) : Type 0 where
   pub checks : ChecksRefused config reason old new
   pub run_is : checks.run ≡ run_lines found
-
--- the text is none: reading it fails by this fault, which isn't running out of memory, and that was written
-pub record PrintsFault (text : List ℕ) (old new : Option (List ℕ)) : Type 0 where
-  pub fault : ConfigFault
-  pub told : IsSome (fault_of fault)
-  pub said : Fails (fault_of fault) (read_or (read text))
-  pub printed : Appends old new (config_fault_line fault)
-
--- the answer where a run was broken off
-abbrev pub fault_answer : RunFault → ℕ
-fault_answer NoMemory = 3
-fault_answer Writer = 4
-fault_answer TooManyCalls = 5
-
--- memory was refused, or a writer or a device failed; no script had too many calls
-abbrev pub IsNoOverrun : RunFault → Type 0
-IsNoOverrun NoMemory = Unit {0}
-IsNoOverrun Writer = Unit {0}
-IsNoOverrun TooManyCalls = ⊥
-
--- where memory was refused nothing was written; nothing is said of a writer that failed. No calls are made
-abbrev pub StopsUnwritten : Option (List ℕ) → Option (List ℕ) → RunFault → Type 0
-StopsUnwritten old new NoMemory = new ≡ old
-StopsUnwritten old new Writer = Unit {0}
-StopsUnwritten old new TooManyCalls = ⊥
 
 -- of a script's text: its configuration has a fault, and that was written
 pub record HasFaultyConfig (t : Result Told WhyNot) (old new : Option (List ℕ)) : Type 0 where

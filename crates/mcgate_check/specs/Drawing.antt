@@ -12,7 +12,7 @@ use Rattle.gate_gaps.specs.Explanations as gaps
 use Rattle.gate_gaps.specs.Pools.{NamedPools, named_pools_in}
 use Rattle.gate_picture.specs.Picture.{picture, gap_picture}
 use Rattle.mcgate_check.specs.Checking.{ReasonHasLine}
-use Rattle.mcgate_check.specs.Verdict.{judged_line}
+use Rattle.mcgate_lines.specs.Verdict.{judged_line}
 
 -- these lines are drawn: of a gap the tree with the way of an explanation; another reason has its line
 abbrev pub IsDrawn : Configuration → NamedPools → Reason → List ℕ → Type 0

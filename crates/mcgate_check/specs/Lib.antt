@@ -3,14 +3,8 @@ pub mod Commands
 pub mod Failing
 pub mod Refusals
 pub mod Stepped
-pub mod Verdict
-pub mod Reloads
 pub mod Checking
 pub mod Explaining
 pub mod Drawing
 pub mod Reporting
-pub mod Asking
-pub mod LimitLines
-pub mod Blocks
-pub mod Finding
 pub mod Certifying

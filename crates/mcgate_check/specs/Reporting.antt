@@ -4,11 +4,12 @@ use Rattle.serde_json.specs.Read.{read}
 use Rattle.route_json.specs.Configs.{read_or}
 use Rattle.route_json.specs.Configuration.{Configuration}
 use Rattle.gate_check.specs.declared.gap.Reason.{Reason}
-use Rattle.mcgate_check.specs.Checking.{PrintsAccepted, ChecksRefused, PrintsFault}
+use Rattle.mcgate_check.specs.Checking.{PrintsAccepted, ChecksRefused}
+use Rattle.mcgate_lines.specs.Faults.{PrintsFault}
 use Rattle.mcgate_check.specs.Explaining.{ExplainsAccepted, ExplainsRefused}
 use Rattle.mcgate_check.specs.Drawing.{DrawsAccepted, DrawsRefused}
-use Rattle.mcgate_check.specs.declared.reporting.Form.{Form}
-use Rattle.mcgate_check.specs.declared.reporting.Form.TheVariants as forms
+use Rattle.mcgate_lines.specs.declared.verdict.Form.{Form}
+use Rattle.mcgate_lines.specs.declared.verdict.Form.TheVariants as forms
 
 -- an accepted configuration in this form, which this text means
 abbrev pub AcceptedIn : Form → (text : List ℕ) → Configuration → Option (List ℕ) → Option (List ℕ) → Type 0

@@ -4,14 +4,15 @@ ghost use Rattle.std.specs.Prelude.{[], ◌∷◌, ◌≡◌, ◌≤◌, IfErr, 
 ghost use Rattle.gate_check.specs.Gate.{HasCertificate, IsCertified};
 ghost use Rattle.gate_check.specs.Tables.{IsTable};
 ghost use Rattle.mcgate_check.specs.Certifying.{Certifies, CertifiesConfig, WritesCertificate};
-ghost use Rattle.mcgate_check.specs.Checking.{StopsUnwritten};
+ghost use Rattle.mcgate_lines.specs.Faults.{StopsUnwritten};
 
-use crate::checking::{print_fault, print_refused};
-use crate::status::{DONE, RunFault, answer_of};
+use crate::checking::print_refused;
 use gate_certificate::certificate_text;
 use gate_check::places::proposing::propose_by;
 use gate_check::places::{Certificate, PlaceTable, places};
 use gate_check::{judge_by, untabled};
+use mcgate_lines::faults::print_fault;
+use mcgate_lines::status::{DONE, RunFault, answer_of};
 use route_json::{Config, read_config};
 use route_tree::Tree;
 use std::alloc::{AllocError, Global};

@@ -2,26 +2,23 @@
 
 ghost use Rattle.std.specs.Prelude.{[], ◌∷◌, ◌≡◌, ◌≤◌, IfOk, IfErr, IfSome, OnOk, All};
 ghost use Rattle.std.specs.Io.KnownBytes.{Appends};
-ghost use Rattle.serde_json.specs.Read.{read};
-ghost use Rattle.route_json.specs.Configs.{read_or};
-ghost use Rattle.route_json.specs.Fault.{Fails, fault_of};
 ghost use Rattle.gate_check.specs.Gate.{IsCertified, IsJudged};
 ghost use Rattle.gate_check.specs.Tables.{IsTable};
 ghost use Rattle.script_events.specs.Scripted.{scripted_of};
 ghost use Rattle.script_events.specs.LineLaws.{HasWidths};
-ghost use Rattle.mcgate_check.specs.Verdict.{judged_line};
-ghost use Rattle.mcgate_check.specs.Checking.{ChecksRefused, ChecksFound, ReasonHasLine, PrintsAccepted, PrintsRefused, IsFoundFor, PrintsFault, StopsUnwritten, TreeHasPlaces, run_lines};
+ghost use Rattle.mcgate_lines.specs.Verdict.{judged_line};
+ghost use Rattle.mcgate_check.specs.Checking.{ChecksRefused, ChecksFound, ReasonHasLine, PrintsAccepted, PrintsRefused, IsFoundFor, TreeHasPlaces, run_lines};
+ghost use Rattle.mcgate_lines.specs.Faults.{StopsUnwritten};
 
 use crate::leaks::run::run_with;
-use crate::status::{BAD_INPUT, DONE, REFUSED, RunFault};
-use crate::verdict::{write_accepted, write_refusal};
 use gate_check::Reason;
 use gate_check::places::PlaceTable;
-use route_json::{Config, ConfigFault};
+use mcgate_lines::status::{DONE, REFUSED, RunFault};
+use mcgate_lines::verdict::{write_accepted, write_refusal};
+use route_json::Config;
 use route_tree::Tree;
 use script_events::Script;
 use script_events::text::lines::write_script;
-use script_events::text::printer::write_config_fault;
 use std::alloc::{AllocError, Global};
 use std::io;
 use std::io::Write;
@@ -157,20 +154,4 @@ pub fn check_refused<W: Write>(
     ensures err { IfErr result (StopsUnwritten (W.contents out.old) (W.contents out.new)) }
 {
     check_refused_by(alloc, config, None, reason, out)
-}
-
-/// Writes the fault of a text that is no configuration, unless that is running out of memory.
-pub fn print_fault<W: Write>(text: &str, fault: &ConfigFault, out: &mut W) -> Result<u8, RunFault>
-    requires { Fails (fault_of fault.now) (read_or (read text.now)) }
-    ensures ok { IfOk result (λ status. (status ≡ 2) × PrintsFault text.now (W.contents out.old) (W.contents out.new)) }
-    ensures err { IfErr result (StopsUnwritten (W.contents out.old) (W.contents out.new)) }
-{
-    let _text = text;
-    match fault {
-        ConfigFault::NoMemory => Err(RunFault::NoMemory),
-        told => {
-            write_config_fault(told, out)?;
-            Ok(BAD_INPUT)
-        }
-    }
 }

@@ -3,15 +3,15 @@
 ghost use Rattle.std.specs.Prelude.{◌≡◌, IfOk, IfErr};
 ghost use Rattle.gate_check.specs.Gate.{IsCertified, IsJudged};
 ghost use Rattle.gate_check.specs.declared.gap.Reason.TheVariants as reasons;
-ghost use Rattle.mcgate_check.specs.Checking.{StopsUnwritten};
+ghost use Rattle.mcgate_lines.specs.Faults.{StopsUnwritten};
 ghost use Rattle.mcgate_check.specs.Drawing.{DrawsAccepted, DrawsRefused};
 
 use crate::checking::print_reason;
 use crate::explaining::gap_explained;
-use crate::status::{DONE, REFUSED, RunFault};
 use gate_check::{Gap, Reason};
 use gate_gaps::read_pools;
 use gate_picture::{write_gap_picture, write_picture};
+use mcgate_lines::status::{DONE, REFUSED, RunFault};
 use route_json::Config;
 use std::alloc::Global;
 use std::io::Write;

@@ -1,8 +1,9 @@
-//! What `mcgate check`, `certify` and `where` print: the gate's verdict on a configuration, as lines, in words or as a
-//! picture, or its fault; a script that shows a gap; a certificate; and where keys live.
+//! What `mcgate check` and `certify` print: the gate's verdict on a configuration, as lines, in words or as a picture, or
+//! its fault; a script that shows a gap; and a certificate.
 //!
 //! ```text
-//! arguments --mcgate_args--> check, certify, where --> here
+//! arguments --mcgate_args--> check, certify        --> here
+//!                            where                 --> mcgate_lines
 //!                            replay                --> mcgate_replay    --> script_run
 //!                            loopback              --> mcgate_loopback  --> serve_proxy and cache_tcp, in one thread
 //!                            serve                 --> mcgate_serve     --> serve_proxy
@@ -14,13 +15,7 @@ pub mod certifying;
 pub mod checking;
 pub mod drawing;
 pub mod explaining;
-pub mod key_places;
 pub mod leaks;
-pub mod reload_lines;
 pub mod reporting;
-pub mod status;
-pub mod verdict;
 
-pub use reporting::{Form, run_check};
-pub use status::RunFault;
-pub use verdict::{write_accepted, write_refusal};
+pub use reporting::run_check;

@@ -3,29 +3,20 @@
 ghost use Rattle.std.specs.Prelude.{[], ◌∷◌, ◌≡◌, ◌≤◌, IfOk, IfErr, IfSome};
 ghost use Rattle.gate_check.specs.Gate.{IsCertified, IsJudged};
 ghost use Rattle.gate_check.specs.Tables.{IsTable};
-ghost use Rattle.mcgate_check.specs.Checking.{StopsUnwritten};
+ghost use Rattle.mcgate_lines.specs.Faults.{StopsUnwritten};
 ghost use Rattle.mcgate_check.specs.Reporting.{AcceptedIn, Checks, RefusedIn, ReportsConfig};
 
-use crate::checking::{check_refused_by, print_accepted_by, print_fault};
+use crate::checking::{check_refused_by, print_accepted_by};
 use crate::drawing::{draw_accepted, draw_refused};
 use crate::explaining::{explain_accepted, explain_refused};
-use crate::status::{RunFault, answer_of};
 use gate_check::places::{PlaceTable, places};
 use gate_check::{Reason, judge_by, untabled};
+use mcgate_lines::Form;
+use mcgate_lines::faults::print_fault;
+use mcgate_lines::status::{RunFault, answer_of};
 use route_json::{Config, read_config};
 use std::alloc::Global;
 use std::io::Write;
-
-/// The form in which a verdict is printed.
-#[derive(Clone, Copy, PartialEq, Eq)]
-pub enum Form {
-    /// The verdict, and the script that shows a gap.
-    Lines,
-    /// The verdict, the script that shows a gap, and then words.
-    Explained,
-    /// The tree as a graph, a gap marked.
-    Picture,
-}
 
 // Prints an accepted configuration, whose tree has this table of places.
 fn accept<W: Write>(

@@ -13,10 +13,11 @@ use Rattle.script_events.specs.declared.script.Reload.{Reload}
 use Rattle.script_events.specs.Bad.{first_bad}
 use Rattle.mcgate_loopback.specs.declared.entries.RunEntry.{RunEntry}
 use Rattle.mcgate_loopback.specs.Printed.{entry_lines}
-use Rattle.mcgate_check.specs.declared.status.RunFault.{RunFault}
-use Rattle.mcgate_check.specs.declared.status.RunFault.TheVariants.{NoMemory, Writer, TooManyCalls}
+use Rattle.mcgate_lines.specs.declared.status.RunFault.{RunFault}
+use Rattle.mcgate_lines.specs.declared.status.RunFault.TheVariants.{NoMemory, Writer, TooManyCalls}
 use Rattle.gate_check.specs.Gate.{IsCertified}
-use Rattle.mcgate_check.specs.Checking.{PrintsRefused, IsNoOverrun}
+use Rattle.mcgate_check.specs.Checking.{PrintsRefused}
+use Rattle.mcgate_lines.specs.Faults.{IsNoOverrun}
 use Rattle.mcgate_loopback.specs.Running.{loopback_events, WritesRun, LoopbackBreaksOff, LoopbackRuns, LoopbackRunsScript, RunsTold}
 
 pub both_written : (old mid new : Option (List ℕ)) (a b : List ℕ) → Appends old mid a → Appends mid new b → Appends old new (a ++ b)

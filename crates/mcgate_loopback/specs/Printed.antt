@@ -4,7 +4,7 @@ use Rattle.script_events.specs.declared.script.Reload.{Reload}
 use Rattle.script_events.specs.Scripted.{output_shown}
 use Rattle.gate_check.specs.declared.reloading.ReloadFault.{ReloadFault}
 use Rattle.script_events.specs.Printed.{shown_line}
-use Rattle.mcgate_check.specs.Reloads.{loaded_line, kept_line}
+use Rattle.mcgate_lines.specs.Reloads.{loaded_line, kept_line}
 use Rattle.mcgate_loopback.specs.declared.ends.Counts.{Counts}
 use Rattle.mcgate_loopback.specs.declared.entries.RunEntry.{RunEntry}
 use Rattle.mcgate_loopback.specs.declared.entries.RunEntry.TheVariants as entries

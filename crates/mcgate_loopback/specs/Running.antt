@@ -13,8 +13,8 @@ use Rattle.script_events.specs.declared.text.configured.ConfiguredScript.{Config
 use Rattle.script_events.specs.declared.text.configured.ScriptFault.{ScriptFault}
 use Rattle.script_events.specs.Printed.{bad_line_line}
 use Rattle.mcgate_check.specs.Checking.{PrintsRefused, HasFaultyConfig}
-use Rattle.mcgate_check.specs.declared.status.RunFault.{RunFault}
-use Rattle.mcgate_check.specs.declared.status.RunFault.TheVariants.{NoMemory, Writer, TooManyCalls}
+use Rattle.mcgate_lines.specs.declared.status.RunFault.{RunFault}
+use Rattle.mcgate_lines.specs.declared.status.RunFault.TheVariants.{NoMemory, Writer, TooManyCalls}
 use Rattle.mcgate_loopback.specs.declared.ends.Counts.{Counts}
 use Rattle.mcgate_loopback.specs.declared.entries.RunEntry.{RunEntry}
 use Rattle.mcgate_loopback.specs.Printed.{entry_lines, done_line}

@@ -7,7 +7,7 @@ ghost use Rattle.script_events.specs.Printed.{shown_line};
 ghost use Rattle.mcgate_loopback.specs.Printed.{entry_line, entry_lines, kept_line_of};
 
 use gate_check::ReloadFault;
-use mcgate_check::reload_lines::{write_kept, write_loaded};
+use mcgate_lines::reload_lines::{write_kept, write_loaded};
 use script_events::{Output, Reload};
 use std::io;
 use std::io::Write;

@@ -1,7 +1,7 @@
 //! Scripts that are run over TCP, and what is printed of them.
 
 ghost use Rattle.std.specs.Prelude.{◌≡◌, ◌≤◌, IfOk, IfErr, length};
-ghost use Rattle.mcgate_check.specs.Checking.{IsNoOverrun};
+ghost use Rattle.mcgate_lines.specs.Faults.{IsNoOverrun};
 ghost use Rattle.script_events.specs.Told.{IsReading};
 ghost use Rattle.mcgate_loopback.specs.Running.{WritesRun, LoopbackBreaksOff, LoopbackRuns, LoopbackRunsScript, RunsRead, RunsLoopback};
 
@@ -9,11 +9,12 @@ use crate::ends::{Counts, Loop, drive};
 use crate::entries::{RunEntry, write_entries};
 use crate::printing::write_done;
 use gate_check::{Accepted, judge};
-use mcgate_check::RunFault;
 use mcgate_check::checking::print_refused;
-use mcgate_check::status::{BAD_INPUT, DONE, answer_of};
+use mcgate_lines::RunFault;
+use mcgate_lines::faults::write_config_fault;
+use mcgate_lines::status::{BAD_INPUT, DONE, answer_of};
 use script_events::text::configured::{ConfiguredScript, ScriptFault};
-use script_events::text::printer::{write_bad_line, write_config_fault};
+use script_events::text::printer::write_bad_line;
 use script_events::text::reader::read_script;
 use script_events::{Reload, first_bad_event};
 use std::io;

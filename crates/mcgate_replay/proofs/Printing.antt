@@ -23,9 +23,10 @@ use Rattle.script_events.specs.Bad.{first_bad}
 use Rattle.gate_check.specs.Reload.{AreKept}
 use Rattle.script_events.specs.declared.text.configured.ScriptFault.{ScriptFault}
 use Rattle.script_run.specs.declared.accepted.judging.Loading.{Loading}
-use Rattle.mcgate_check.specs.Checking.{PrintsRefused, StopsUnwritten}
-use Rattle.mcgate_check.specs.declared.status.RunFault.{RunFault}
-use Rattle.mcgate_check.specs.declared.status.RunFault.TheVariants.{NoMemory, Writer, TooManyCalls}
+use Rattle.mcgate_check.specs.Checking.{PrintsRefused}
+use Rattle.mcgate_lines.specs.Faults.{StopsUnwritten}
+use Rattle.mcgate_lines.specs.declared.status.RunFault.{RunFault}
+use Rattle.mcgate_lines.specs.declared.status.RunFault.TheVariants.{NoMemory, Writer, TooManyCalls}
 use Rattle.mcgate_replay.specs.declared.judging.Judging.{Judging}
 use Rattle.mcgate_replay.specs.Growing.{asks_no_gate, excluded_by}
 use Rattle.mcgate_replay.specs.Replay.{ReplaysTold, excluded_line, bad_line_by, RunsScript, RunsGood, BreaksTreeOff, BreaksScriptOff, ReplayBreaksOff, BrokeOff, run_fault_of, HasReloads, replayed_events, reloads_of, load_line, load_lines, with_loads}

@@ -28,9 +28,9 @@ use Rattle.script_events.specs.declared.text.configured.ScriptFault.{ScriptFault
 use Rattle.script_events.specs.Printed.{shown_lines, report_line, bad_line_line}
 use Rattle.script_events.specs.Bad.{first_bad}
 use Rattle.mcgate_check.specs.Checking.{PrintsRefused, HasFaultyConfig}
-use Rattle.mcgate_check.specs.Reloads.{loaded_line, unchecked_line, kept_line}
-use Rattle.mcgate_check.specs.declared.status.RunFault.{RunFault}
-use Rattle.mcgate_check.specs.declared.status.RunFault.TheVariants.{NoMemory, Writer, TooManyCalls}
+use Rattle.mcgate_lines.specs.Reloads.{loaded_line, unchecked_line, kept_line}
+use Rattle.mcgate_lines.specs.declared.status.RunFault.{RunFault}
+use Rattle.mcgate_lines.specs.declared.status.RunFault.TheVariants.{NoMemory, Writer, TooManyCalls}
 use Rattle.gate_growth.specs.Grown.{AreSoundSince}
 use Rattle.core_accepted.specs.Known.{Known, is_arbitrary, first_of}
 use Rattle.mcgate_replay.specs.declared.judging.Judging.{Judging}

@@ -13,7 +13,7 @@ use crate::pairing::judge_pairs;
 use crate::transcripts::write_driven;
 use core_accepted::{Beginnings, Generations};
 use gate_check::Accepted;
-use mcgate_check::RunFault;
+use mcgate_lines::RunFault;
 use script_events::Transcript;
 use script_events::servers::ScriptServers;
 use script_events::text::configured::ConfiguredScript;

@@ -2,15 +2,15 @@
 
 ghost use Rattle.std.specs.Prelude.{◌≡◌, ◌≤◌, ◌+◌, ◌-◌, ◌++◌, ◌⊎◌, IfOk, IfErr, OnOk, map, slice_get};
 ghost use Rattle.std.specs.Io.KnownBytes.{Appends};
-ghost use Rattle.mcgate_check.specs.declared.status.RunFault.TheVariants.{Writer};
-ghost use Rattle.mcgate_check.specs.Reloads.{unchecked_line};
+ghost use Rattle.mcgate_lines.specs.declared.status.RunFault.TheVariants.{Writer};
+ghost use Rattle.mcgate_lines.specs.Reloads.{unchecked_line};
 ghost use Rattle.script_events.specs.Scripted.{output_shown, transcript_of};
 ghost use Rattle.script_events.specs.Printed.{shown_lines};
 ghost use Rattle.mcgate_replay.specs.Replay.{loading_line, load_line, transcript_lines, run_fault_of, Wrote, BrokeOff};
 
-use mcgate_check::RunFault;
-use mcgate_check::reload_lines::{write_kept, write_loaded, write_unchecked};
-use mcgate_check::status::DONE;
+use mcgate_lines::RunFault;
+use mcgate_lines::reload_lines::{write_kept, write_loaded, write_unchecked};
+use mcgate_lines::status::DONE;
 use route_json::Servers;
 use script_events::text::printer::{write_outputs, write_report};
 use script_events::{DriveFault, Output, Reload, Report, Transcript};

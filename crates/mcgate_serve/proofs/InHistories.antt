@@ -3,7 +3,7 @@ use Rattle.std.proofs.Common.{◌≡◌, ◌+◌, ◌-◌, subst, ap, ◌∙◌,
 use Rattle.std.proofs.lemmas.Option.{get_or_from_slice_get}
 use Rattle.std.specs.List.{slice_get}
 use Rattle.gate_history.specs.declared.generation.Generation.{Generation}
-use Rattle.mcgate_args.specs.FleetMembers.{StandBeside}
+use Rattle.mcgate_ends.specs.FleetMembers.{StandBeside}
 
 -- what stands at a place is what is read there
 read_there : (gs : List Generation) (n i : ℕ) (x y : Generation) → n ≡ i → slice_get gs i ≡ Some y → get_or gs n x ≡ y

@@ -22,11 +22,12 @@ use Rattle.serve_proxy.proofs.Going.{still, and_then, stays, same_core as calls_
 use Rattle.serve_proxy.proofs.Growing.{grows, then_grows, limited_grows, of_none, load_none}
 use Rattle.serve_proxy.proofs.Staying.{stay_still}
 use Rattle.core_accepted.specs.Loading.{IsLoaded}
-use Rattle.mcgate_serve.specs.declared.remembering.Kept.{Kept}
-use Rattle.mcgate_serve.specs.Remembers.{StandsIn, StandsIfLoaded}
+use Rattle.mcgate_notes.specs.declared.remembering.Kept.{Kept}
+use Rattle.mcgate_serve.specs.Remembers.{StandsIfLoaded}
+use Rattle.mcgate_notes.specs.Remembers.{StandsIn}
 use Rattle.mcgate_serve.specs.InFleet.{StandsBeside, in_use_after}
 use Rattle.mcgate_serve.specs.Serves.{TextSaysAfter, MayLoad, MayLoadBeside, MayLoadText, LoadsOne, LoadsText, IsServeStep, proxy_of}
-use Rattle.mcgate_serve.specs.Limits.{IsTextLimit, call_limit, connect_limit, failure_limit, ObstacleIsByText, UsesText, UseTexts, KeepsToTexts, ServesByTexts, GoesOnFrom}
+use Rattle.mcgate_serve.specs.Limits.{IsTextLimit, call_limit, connect_limit, failure_limit, ObstacleIsByText, UsesText, UseTexts, KeepsToTexts, GoesOnFrom}
 
 false_true : false ≡ true → ⊥
 false_true e = cc
@@ -194,50 +195,41 @@ then_by {settings} {a} {b} {c} g k = record {
 pub stays_on : {W : Type 0} {Is : Step → Type 0} (history : W → List WireEvent) (old new : ProxyEnd W) → new.core ≡ old.core → Stay history old.sockets new.sockets → AllGo Is (proxy_of history old) (proxy_of history new)
 stays_on history old new core ends = and_then (stays old.core.value ends) (calls_still (ap (λ c. c.value) core))
 
-pub stood : {W : Type 0} {settings : Settings} (history : W → List WireEvent) (old new : ProxyEnd W) → new.core ≡ old.core → Stay history old.sockets new.sockets → KeepsToTexts settings (proxy_of history old) (proxy_of history new)
-stood history old new core ends = turned (stays_on history old new core ends)
-
-pub same_end : {W : Type 0} {settings : Settings} (history : W → List WireEvent) (old new : ProxyEnd W) → new ≡ old → KeepsToTexts settings (proxy_of history old) (proxy_of history new)
-same_end {settings = settings} history old new same = subst (λ x. ServesByTexts history settings old x) (sym same) (stood history old old refl (stay_still (history old.sockets.wire) old.sockets.clients old.sockets.links.all.items))
+-- nothing is done on any connection, nor with the core
+pub stood : {W : Type 0} {settings : Settings} (history : W → List WireEvent) (end : ProxyEnd W) (new : Sockets W) → Stay history end.sockets new → KeepsToTexts settings (proxy_of history end) (end_of history end.core.value new)
+stood history end new ends = turned (stays end.core.value ends)
 
 -- nothing is done at all
 pub serves_still : {W : Type 0} {settings : Settings} (history : W → List WireEvent) (end : ProxyEnd W) → KeepsToTexts settings (proxy_of history end) (proxy_of history end)
-serves_still history end = same_end history end end refl
+serves_still history end = turned still
 
 pub goes_still : {W : Type 0} (history : W → List WireEvent) (end : ProxyEnd W) → AllGoOn history end.core.value end.sockets end.core.value end.sockets
 goes_still history end = still
 
-pub goes_same : {W : Type 0} (history : W → List WireEvent) (old mid new : ProxyEnd W) → new ≡ mid → AllGoOn history old.core.value old.sockets mid.core.value mid.sockets → AllGoOn history old.core.value old.sockets new.core.value new.sockets
-goes_same {W} history old mid new same g = subst (λ (x : ProxyEnd W). AllGoOn history old.core.value old.sockets x.core.value x.sockets) (sym same) g
-
-pub from_end : {W : Type 0} {settings : Settings} (history : W → List WireEvent) (old mid new : ProxyEnd W) → mid ≡ old → KeepsToTexts settings (proxy_of history mid) (proxy_of history new) → KeepsToTexts settings (proxy_of history old) (proxy_of history new)
-from_end {settings = settings} history old mid new same g = subst (λ x. ServesByTexts history settings x new) same g
-
--- nothing is done with the core, nor on any connection, and limits may have changed
-limits_changed : {W : Type 0} (history : W → List WireEvent) (old new : ProxyEnd W) → new.core ≡ old.core → StayButLimits history old.sockets new.sockets → AllGrow (λ step. ⊥) (proxy_of history old) (proxy_of history new)
-limits_changed history old new core ends = then_grows (limited_grows old.core.value ends) (grows (calls_still (ap (λ c. c.value) core)))
+-- nothing is done on any connection, nor with the core, and limits may have changed
+limits_changed : {W : Type 0} (history : W → List WireEvent) (old : ProxyEnd W) (new : Sockets W) → StayButLimits history old.sockets new → AllGrow (λ step. ⊥) (proxy_of history old) (end_of history old.core.value new)
+limits_changed history old new ends = limited_grows old.core.value ends
 
 -- links have the limits of a text, and it serves from then on
 pub serves_from :
-    {W : Type 0} {settings : Settings} {text : List ℕ} {new : AnEnd} (history : W → List WireEvent) (old mid : ProxyEnd W) → mid.core ≡ old.core → StayButLimits history old.sockets mid.sockets
-    → AreLimited (text_limits (usual_limits settings) text) (servers_of mid.sockets.links.all.items) → KeepsToTexts settings (proxy_of history mid) new → GoesOnFrom settings text (proxy_of history old) new
+    {W : Type 0} {settings : Settings} {new : AnEnd} (history : W → List WireEvent) (old : ProxyEnd W) (mid : Sockets W) → StayButLimits history old.sockets mid → (said text : List ℕ) → said ≡ text
+    → AreLimited (text_limits (usual_limits settings) said) (servers_of mid.links.all.items) → KeepsToTexts settings (end_of history old.core.value mid) new → GoesOnFrom settings text (proxy_of history old) new
 unfolding of_none then_grows
-serves_from {settings = settings} {text = text} {new = new} history old mid core ends limited g =
-    let y = g.limits text limited in
-    record { serves = then_grows (of_none (limits_changed history old mid core ends)) g.serves; limits = (y.0, use_both (usual_limits settings) (texts_of new.links) text text y.0 g.serves.steps [] refl y.1) }
+serves_from {settings = settings} {new = new} history old mid ends said text same limited g =
+    let y = g.limits text (subst (λ t. AreLimited (text_limits (usual_limits settings) t) (servers_of mid.links.all.items)) same limited) in
+    record { serves = then_grows (of_none (limits_changed history old mid ends)) g.serves; limits = (y.0, use_both (usual_limits settings) (texts_of new.links) text text y.0 g.serves.steps [] refl y.1) }
 
 -- nothing is done, but that limits may have changed, and it serves so from this text on
-pub serves_none : {W : Type 0} {settings : Settings} {text : List ℕ} (history : W → List WireEvent) (old new : ProxyEnd W) → new.core ≡ old.core → StayButLimits history old.sockets new.sockets → GoesOnFrom settings text (proxy_of history old) (proxy_of history new)
+pub serves_none : {W : Type 0} {settings : Settings} {text : List ℕ} (history : W → List WireEvent) (old : ProxyEnd W) (new : Sockets W) → StayButLimits history old.sockets new → GoesOnFrom settings text (proxy_of history old) (end_of history old.core.value new)
 unfolding of_none
-serves_none {text = text} history old new core ends = record { serves = of_none (limits_changed history old new core ends); limits = (text, refl) }
+serves_none {text = text} history old new ends = record { serves = of_none (limits_changed history old new ends); limits = (text, refl) }
 
 -- what was read is what the text says
 pub limited_as :
-    (settings : Settings) (usual : LinkLimits) (text said : List ℕ) (value : Data) (links : List Link) → said ≡ text → read said ≡ Some value → usual ≡ usual_limits settings → AreLimited (value_limits usual value) (servers_of links)
+    (settings : Settings) (usual : LinkLimits) (text : List ℕ) (value : Data) (links : List Link) → read text ≡ Some value → usual ≡ usual_limits settings → AreLimited (value_limits usual value) (servers_of links)
     → AreLimited (text_limits (usual_limits settings) text) (servers_of links)
-limited_as settings usual text said value links same reads is limited =
-    subst (λ t. AreLimited (text_limits (usual_limits settings) t) (servers_of links)) same
-    (subst (λ o. AreLimited (limits_by_text (usual_limits settings) o) (servers_of links)) (sym reads) (subst (λ u. AreLimited (value_limits u value) (servers_of links)) is limited))
+limited_as settings usual text value links reads is limited =
+    subst (λ o. AreLimited (limits_by_text (usual_limits settings) o) (servers_of links)) (sym reads) (subst (λ u. AreLimited (value_limits u value) (servers_of links)) is limited)
 
 pub loads_by :
     {W : Type 0} {history : W → List WireEvent} {configuration : Configuration} {servers : Addresses} {core core' : ServedCore} {old new : Sockets W} (limits usual : LinkLimits) (value : Data) → limits ≡ usual
@@ -246,11 +238,11 @@ loads_by {history = history} {configuration = configuration} {servers = servers}
 
 -- nothing is done, and then perhaps a configuration is loaded
 pub stay_loads :
-    {W : Type 0} {configuration : Configuration} {servers : Addresses} {limits : List ℕ → LinkLimits} {core : ServedCore} {new : Sockets W} (history : W → List WireEvent) (old mid : ProxyEnd W) → mid.core ≡ old.core → Stay history old.sockets mid.sockets
-    → AllLoad history configuration servers limits mid.core.value mid.sockets core new → AllLoad history configuration servers limits old.core.value old.sockets core new
+    {W : Type 0} {configuration : Configuration} {servers : Addresses} {limits : List ℕ → LinkLimits} {core core' : ServedCore} {new : Sockets W} (history : W → List WireEvent) (old mid : Sockets W) → Stay history old mid
+    → AllLoad history configuration servers limits core mid core' new → AllLoad history configuration servers limits core old core' new
 unfolding of_none then_grows
-stay_loads {configuration = configuration} history old mid same ends g =
-    let s : AllGo (λ step. ⊥) (proxy_of history old) (proxy_of history mid) = stays_on history old mid same ends in
+stay_loads {configuration = configuration} {core = core} history old mid ends g =
+    let s : AllGo (λ step. ⊥) (end_of history core old) (end_of history core mid) = stays core ends in
     record {
       grows = then_grows (of_none (grows s)) g.grows;
       links = ⊎_elim (λ k. inl (append-nil g.grows.steps ∙ k.0, k.1 ∙ s.servers.same)) (λ k. inr (k.0, append-nil g.grows.steps ∙ k.1, k.2, k.3)) g.links;
@@ -260,31 +252,17 @@ stay_loads {configuration = configuration} history old mid same ends g =
 pub same_box : {W : Type 0} (old new : ProxyEnd W) → new ≡ old → new.core ≡ old.core
 same_box {W} old new same = ap (λ (e : ProxyEnd W). e.core) same
 
-pub same_core : {W : Type 0} (old new : ProxyEnd W) → new ≡ old → new.core.value ≡ old.core.value
-same_core {W} old new same = ap (λ (e : ProxyEnd W). e.core.value) same
-
-pub stayed : {W : Type 0} (history : W → List WireEvent) (first old new : ProxyEnd W) → new ≡ old → Stay history first.sockets old.sockets → Stay history first.sockets new.sockets
-stayed {W} history first old new same stay = subst (λ (e : ProxyEnd W). Stay history first.sockets e.sockets) (sym same) stay
-
 -- nothing is done on any connection
-pub stays_still : {W : Type 0} (history : W → List WireEvent) (end : ProxyEnd W) → Stay history end.sockets end.sockets
-stays_still history end = stay_still (history end.sockets.wire) end.sockets.clients end.sockets.links.all.items
-
-pub stays_same : {W : Type 0} (history : W → List WireEvent) (old new : ProxyEnd W) → new ≡ old → Stay history old.sockets new.sockets
-stays_same history old new same = stayed history old old new same (stays_still history old)
-
--- it wasn't loaded
-pub not_loaded : (old mid new : ServedCore) → mid ≡ old → new ≡ mid → new ≡ old
-not_loaded old mid new same kept = kept ∙ same
+pub stays_still : {W : Type 0} (history : W → List WireEvent) (sockets : Sockets W) → Stay history sockets sockets
+stays_still history sockets = stay_still (history sockets.wire) sockets.clients sockets.links.all.items
 
 -- the text stands in the history's file, also after a load that leaves the history as it was
 pub stands_still : (a b : ServedCore) (memory after : Option Kept) (text : List ℕ) → after ≡ memory → StandsIn memory text → StandsIfLoaded a b after text
 stands_still a b memory after text same stands = inr (subst (λ (m : Option Kept). StandsIn m text) (sym same) stands)
 
--- nothing was changed since
-pub stands_as : (a b b' : ServedCore) (m m' : Option Kept) (text text' : List ℕ) → b' ≡ b → m' ≡ m → text ≡ text' → StandsIfLoaded a b m text → StandsIfLoaded a b' m' text'
-stands_as a b b' m m' text text' core memory said stands =
-    subst (λ (x : ServedCore). StandsIfLoaded a x m' text') (sym core) (subst (λ (x : Option Kept). StandsIfLoaded a b x text') (sym memory) (subst (λ (x : List ℕ). StandsIfLoaded a b m x) said stands))
+-- the text is this one
+pub stands_said : (a b : ServedCore) (memory : Option Kept) (text text' : List ℕ) → text ≡ text' → StandsIfLoaded a b memory text → StandsIfLoaded a b memory text'
+stands_said a b memory text text' said stands = subst (λ (x : List ℕ). StandsIfLoaded a b memory x) said stands
 
 -- it wasn't loaded
 pub stands_unused : (a b : ServedCore) (memory : Option Kept) (text : List ℕ) (used : Bool) → used ≡ false → IsTrue used ⊎ (b ≡ a) → StandsIfLoaded a b memory text
@@ -313,11 +291,9 @@ loaded {settings = settings} {old = old} {new = new} before servers text configu
 pub loads_still : (used : Option Configuration) (servers : Addresses) (text : List ℕ) (core : ServedCore) → LoadsText used used servers text core core
 loads_still used servers text core = inl (refl, refl)
 
--- nothing was changed since
-pub loads_as :
-    (used in_use in_use' : Option Configuration) (servers : Addresses) (text text' : List ℕ) (a b b' : ServedCore) → in_use' ≡ in_use → text ≡ text' → b' ≡ b → LoadsText used in_use servers text a b → LoadsText used in_use' servers text' a b'
-loads_as used in_use in_use' servers text text' a b b' same said core loads =
-    subst (λ (x : ServedCore). LoadsText used in_use' servers text' a x) (sym core) (subst (λ (x : Option Configuration). LoadsText used x servers text' a b) (sym same) (subst (λ (x : List ℕ). LoadsText used in_use servers x a b) said loads))
+-- the text is this one
+pub loads_as : (used in_use : Option Configuration) (servers : Addresses) (text text' : List ℕ) (a b : ServedCore) → text ≡ text' → LoadsText used in_use servers text a b → LoadsText used in_use servers text' a b
+loads_as used in_use servers text text' a b said loads = subst (λ (x : List ℕ). LoadsText used in_use servers x a b) said loads
 
 -- what a text says is loaded, or not
 pub loads_said :

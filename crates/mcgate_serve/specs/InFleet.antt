@@ -3,8 +3,8 @@ use Rattle.std.specs.Prelude.{◌≡◌, ℕ, ◌+◌, ◌<◌, Bool, true, List
 use Rattle.route_json.specs.Configuration.{Configuration}
 use Rattle.gate_history.specs.declared.generation.Generation.{Generation}
 use Rattle.gate_history.specs.InFile.{InFile}
-use Rattle.mcgate_args.specs.FleetMembers.{StandBeside}
-use Rattle.mcgate_serve.specs.declared.remembering.Kept.{Kept}
+use Rattle.mcgate_ends.specs.FleetMembers.{StandBeside}
+use Rattle.mcgate_notes.specs.declared.remembering.Kept.{Kept}
 use Rattle.mcgate_serve.specs.declared.started.Begun.{Begun}
 use Rattle.mcgate_serve.specs.declared.started.Begun.TheVariants as outcomes
 

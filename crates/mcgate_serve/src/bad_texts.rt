@@ -1,9 +1,10 @@
 //! What is said of a text that was to be loaded and wasn't: why it is no configuration, or what to run next.
 
-use crate::events::{Field, LogEvent, Subject};
-use crate::lines::Lines;
-use mcgate_args::details::Details;
-use mcgate_args::serve_arguments::ServeJob;
+use fault_configs::{lines_of_configuration, lines_of_over};
+use mcgate_ends::details::Details;
+use mcgate_ends::serve_job::ServeJob;
+use mcgate_notes::events::{Field, LogEvent, Subject};
+use mcgate_notes::lines::Lines;
 use serve_proxy::{Beginning, Beginnings};
 use std::alloc::{AllocError, Global};
 
@@ -83,10 +84,10 @@ fn say_faults<R: AllocGlobal + Eprint>(
     said: &[u8],
 ) {
     let mut details = Details::new(rt.alloc());
-    details.add_text(rt.alloc(), file, text);
+    details.add_all(lines_of_configuration(rt.alloc(), file, text));
     if details.lines().is_empty() {
         if let Some(server) = over_in(said) {
-            details.add_over(rt.alloc(), file, text, server);
+            details.add_all(lines_of_over(rt.alloc(), file, text, server));
         }
     }
     let fields = [Field::event("fault"), Field::text("file", file)];

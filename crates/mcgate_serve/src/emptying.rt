@@ -1,24 +1,28 @@
-//! Servers that are to be emptied before their first call. Beside a history a file names them until they were, so that the next run
-//! empties those of which it isn't known.
+//! Servers that are to be emptied before their first call. Beside a history a file names them until
+//! they were, so that the next run empties those of which it isn't known.
 
 ghost use Rattle.std.specs.Prelude.{◌≡◌, IfSome};
 ghost use Rattle.route_json.specs.NumberedServers.{texts};
-ghost use Rattle.mcgate_serve.specs.Emptied.{is_among, IsNamedAt};
+ghost use Rattle.serve_proxy.specs.Ends.{Stay};
+ghost use Rattle.mcgate_serve.specs.Emptied.{is_among, IsNamedAt, IsDueAt, EmptiesOnly};
 
-use crate::remembering::{OTHER_WROTE, put_over};
-use mcgate_args::input::text_of;
-use mcgate_args::input_text::InputFault;
+use mcgate_ends::ends::Stop;
+use mcgate_ends::input::text_of;
+use mcgate_ends::input_text::InputFault;
+use mcgate_notes::lines::Lines;
+use mcgate_notes::remembering::{OTHER_WROTE, put_over, tell_unwritten};
 use route_json::addresses::Servers;
 use route_json::read_config_after;
-use serve_proxy::{ProxyEnd, text_at};
+use serve_proxy::{Sockets, text_at};
 use serve_wire::Wire;
 use std::alloc::{AllocError, Global};
 use std::fs::metadata;
 use std::io;
-use std::io::ErrorKind;
+use std::io::{ErrorKind, Write};
 use std::rt::Files;
 
-/// The names of servers that are to be emptied, and the file that has them, one on each line, where a history is kept.
+/// The names of servers that are to be emptied, and the file that has them, one on each line, where
+/// a history is kept.
 #[derive(Drop)]
 pub struct Emptying {
     path: Option<String>,
@@ -94,19 +98,21 @@ fn has(names: &[String], name: &str) -> bool
     false
 }
 
-// Whether the server of this name is still to be emptied, as far as is known: one that isn't in use is.
-fn is_due<W: Wire>(end: &ProxyEnd<W>, servers: &Servers, name: &str) -> bool {
+// Whether the server of this name is still to be emptied, as far as is known: one that isn't in use
+// is.
+fn is_due<W: Wire>(sockets: &Sockets<W>, servers: &Servers, name: &str) -> bool {
     let Some(server) = servers.find(name) else {
         return true;
     };
-    match end.sockets.link(server.number() as usize) {
+    match sockets.link(server.number() as usize) {
         Some(link) => link.flushes,
         None => true,
     }
 }
 
 impl Emptying {
-    /// The servers that are still to be emptied, as the run before left them: none where there was none, or no history is kept.
+    /// The servers that are still to be emptied, as the run before left them: none where there was
+    /// none, or no history is kept.
     pub fn read<R: Files + Input + AllocGlobal>(
         rt: &R,
         history: Option<&str>,
@@ -179,8 +185,8 @@ impl Emptying {
         self.write(rt)
     }
 
-    /// The servers that a text's configuration has behind these, if it says one, are to be emptied, where that is so of all that a reload brings. The file
-    /// has them before they are used.
+    /// The servers that a text's configuration has behind these, if it says one, are to be emptied,
+    /// where that is so of all that a reload brings. The file has them before they are used.
     pub fn add_of<R: Files + AllocGlobal>(
         &mut self,
         rt: &R,
@@ -196,7 +202,8 @@ impl Emptying {
         }
     }
 
-    /// The number of the first of these servers, from this number on, that is named as one to be emptied.
+    /// The number of the first of these servers, from this number on, that is named as one to be
+    /// emptied.
     pub fn next(&self, servers: &Servers, from: usize) -> Option<usize>
         ensures { IfSome result (IsNamedAt (texts self.now.names.items) servers.now) }
     {
@@ -214,7 +221,7 @@ impl Emptying {
     pub fn settle<R: Files + AllocGlobal, W: Wire>(
         &mut self,
         rt: &R,
-        end: &ProxyEnd<W>,
+        sockets: &Sockets<W>,
         servers: &Servers,
     ) -> io::Result<()> {
         if self.names.is_empty() {
@@ -222,7 +229,7 @@ impl Emptying {
         }
         let mut left = Vec::new(rt.alloc());
         for name in &self.names {
-            if is_due(end, servers, name.as_str()) {
+            if is_due(sockets, servers, name.as_str()) {
                 left.push(String::from_str(rt.alloc(), name.as_str())?)?;
             }
         }
@@ -231,5 +238,92 @@ impl Emptying {
         }
         self.names = left;
         self.write(rt)
+    }
+}
+
+/// The new servers of a text are to be emptied, if it says a configuration, where that is so of all
+/// that a reload brings: it is written before they are used. Whether it was, or needn't be; where
+/// it can't be written that is told and printed.
+pub fn notes_new<R: Files + AllocGlobal + Eprint, W: Write>(
+    rt: &R,
+    lines: &mut Lines,
+    emptying: &mut Option<Emptying>,
+    servers: &Servers,
+    text: &str,
+    out: &mut W,
+) -> Result<bool, Stop> {
+    let Some(emptying) = emptying else {
+        return Ok(true);
+    };
+    match emptying.add_of(rt, servers, text) {
+        Ok(()) => Ok(true),
+        Err(error) if error.kind() == ErrorKind::OutOfMemory => Err(Stop::Memory),
+        Err(error) => {
+            tell_unwritten(rt, lines, emptying.path(), &error);
+            writeln!(out, "reload refused: history not written")?;
+            Ok(false)
+        }
+    }
+}
+
+/// The server of this number is to be emptied, since its name leads to another machine: it is
+/// written.
+pub fn note_moved<R: Files + AllocGlobal>(
+    rt: &R,
+    emptying: &mut Option<Emptying>,
+    servers: &Servers,
+    at: usize,
+) -> io::Result<()> {
+    let Some(emptying) = emptying else {
+        return Err(io::Error::from(ErrorKind::NotFound));
+    };
+    match text_at(servers, at) {
+        Some(name) => emptying.add_one(rt, name),
+        None => Err(io::Error::from(ErrorKind::NotFound)),
+    }
+}
+
+/// What was emptied is noted. Where that can't be written, it may be emptied once more by the next
+/// run.
+pub fn settle_emptying<R: Files + AllocGlobal + Eprint, W: Wire>(
+    rt: &R,
+    lines: &mut Lines,
+    emptying: &mut Option<Emptying>,
+    sockets: &Sockets<W>,
+    servers: &Servers,
+) {
+    if let Some(emptying) = emptying {
+        if let Err(error) = emptying.settle(rt, sockets, servers) {
+            tell_unwritten(rt, lines, emptying.path(), &error);
+        }
+    }
+}
+
+// The first of these servers that is to be emptied, from this number on.
+fn next_emptying(emptying: &Option<Emptying>, servers: &Servers, from: usize) -> Option<usize>
+    ensures { IfSome result (IsDueAt emptying.now servers.now) }
+{
+    match emptying {
+        Some(emptying) => emptying.next(servers, from),
+        None => None,
+    }
+}
+
+/// The servers that are to be emptied are, before their first call, and no others are by that.
+pub fn mark_emptying<W: Wire>(
+    sockets: &mut Sockets<W>,
+    servers: &Servers,
+    emptying: &Option<Emptying>,
+)
+    ensures emptied { EmptiesOnly (IsDueAt emptying.now servers.now) sockets.old.links.all.items sockets.new.links.all.items }
+    ensures ends { Stay W.history sockets.old sockets.new }
+{
+    let mut from = 0usize;
+    for _ in 0..servers.len() {
+        let Some(at) = next_emptying(emptying, servers, from) else {
+            return;
+        };
+        sockets.empty_first(at);
+        from = at.saturating_add(1);
     }
 }

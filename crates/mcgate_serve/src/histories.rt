@@ -1,17 +1,14 @@
-//! The files of histories that `serve`, `check` and `history` are given.
+//! The files of histories that `serve` and `check` are given.
 
-use crate::events::{Field, LogEvent, Subject};
-use crate::lines::Lines;
-use crate::special::is_special;
 use gate_history::HistoryFile;
-use mcgate_args::details::Details;
-use mcgate_args::ends::Stop;
-use mcgate_args::histories::{check_after, read_file, tell_history};
-use mcgate_args::input::text_noting;
-use mcgate_args::input_text::InputFault;
-use mcgate_check::Form;
-use mcgate_check::status::BAD_INPUT;
-use serve_proxy::Beginnings;
+use mcgate_ends::details::Details;
+use mcgate_ends::ends::Stop;
+use mcgate_ends::histories::read_file;
+use mcgate_ends::input::text_noting;
+use mcgate_ends::input_text::InputFault;
+use mcgate_notes::events::{Field, LogEvent, Subject};
+use mcgate_notes::lines::Lines;
+use mcgate_notes::special::is_special;
 use std::alloc::{AllocError, Global};
 use std::fs::metadata;
 use std::io::{ErrorKind, Write};
@@ -73,35 +70,4 @@ pub fn file_at<R: Files + Input + AllocGlobal + Eprint, W: Write>(
     }
     let input = input_of(rt, path, details);
     read_file(rt.alloc(), path, input, out, details)
-}
-
-/// Prints what a history remembers.
-pub fn run_history<R: Files + Input + AllocGlobal, W: Write>(
-    rt: &R,
-    path: &str,
-    out: &mut W,
-    details: &mut Details,
-) -> Result<u8, Stop> {
-    let input = input_of(rt, path, details);
-    match read_file(rt.alloc(), path, input, out, details)? {
-        Some(file) => tell_history(rt.alloc(), file, out),
-        None => Ok(BAD_INPUT),
-    }
-}
-
-/// Prints whether the configuration of a text may follow a history.
-pub fn run_after<R: Files + Input + AllocGlobal + Eprint, W: Write>(
-    rt: &R,
-    path: &str,
-    begun: Beginnings,
-    form: Form,
-    text: &str,
-    out: &mut W,
-    details: &mut Details,
-) -> Result<u8, Stop> {
-    let mut lines = Lines::new(rt.alloc(), None);
-    match file_at(rt, path, &mut lines, out, details)? {
-        Some(file) => check_after(rt.alloc(), path, file, text, begun, form, out, details),
-        None => Ok(BAD_INPUT),
-    }
 }

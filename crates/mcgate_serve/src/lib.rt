@@ -1,29 +1,20 @@
-//! What a proxy that runs is: its turns, what is told of its servers and of itself, what it is told, the configurations that are loaded
-//! meanwhile, and the histories that are remembered of them.
+//! What a proxy that runs is: its turns, what is told of its servers and over HTTP, the
+//! configurations that are loaded meanwhile, and how it begins after those of runs before.
 #![tactic(auto)]
 
 mod bad_texts;
 pub mod build;
-mod client_news;
-pub mod controlling;
-mod draining;
 mod emptying;
-pub mod events;
-pub mod folders;
 pub mod histories;
-mod input_end;
-pub mod lines;
-pub mod listens;
-mod name_news;
+mod link_news;
+mod loading;
+pub mod look_ups;
 pub mod names;
-mod outages;
-mod process_news;
-mod remembering;
+pub mod operating;
+mod orders;
 pub mod seen;
 mod server_news;
 pub mod serving;
-pub mod special;
 pub mod started;
 pub mod starting;
-mod verdict_news;
 pub mod watching;

@@ -1,7 +1,7 @@
 //! What is told of a server's link, in words and by keys.
 
-use crate::events::{Field, LogEvent, Subject};
-use crate::lines::Lines;
+use mcgate_notes::events::{Field, LogEvent, Subject};
+use mcgate_notes::lines::Lines;
 use serve_links::{Cause, LinkNews};
 use std::fmt;
 use std::fmt::Display;

@@ -1,9 +1,9 @@
 //! A text that is to be served, and what is remembered of those before it.
 
 ghost use Rattle.std.specs.Prelude.{◌≡◌, string_bytes};
-ghost use Rattle.mcgate_serve.specs.Remembers.{StandsIn};
+ghost use Rattle.mcgate_notes.specs.Remembers.{StandsIn};
 
-use crate::remembering::Kept;
+use mcgate_notes::remembering::Kept;
 use serve_proxy::Beginnings;
 
 /// The text of a configuration that is to be served; where a history is kept, it stands in its file.

@@ -7,8 +7,8 @@ ghost use Rattle.watch_admin.specs.declared.http.request.Page.TheVariants.{Metri
 ghost use Rattle.mcgate_serve.specs.Told.{op_counts, IsToldOf, AreOfServers, HasTally, IsInPrometheus, IsInJson, TellsInPrometheus, TellsInJson};
 
 use crate::build::IS_PROVED;
+use crate::look_ups::resolve;
 use crate::seen::{LastFailure, Seen};
-use crate::serving::resolve;
 use core_accepted::CoreTally;
 use gate_gaps::names::op_name;
 use mc_types::Op;

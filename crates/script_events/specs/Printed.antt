@@ -2,8 +2,6 @@
 use Rattle.std.specs.Prelude.{ℕ, List, ◌++◌, codes, decimal, flat_map}
 use Rattle.script_events.specs.Scripted.{Shown}
 use Rattle.script_events.specs.declared.script.Report.{Report}
-use Rattle.route_json.specs.declared.fault.ConfigFault.{ConfigFault}
-use Rattle.route_json.specs.Printed.{fault_line}
 use Rattle.script_events.specs.Escapes.{escaped}
 
 -- one entry of the transcript: < C TEXT
@@ -21,7 +19,3 @@ report_line r = codes "done " ++ decimal r.commands ++ codes " commands " ++ dec
 -- the line of a script that is bad
 abbrev pub bad_line_line : ℕ → List ℕ
 bad_line_line n = codes "script: bad line " ++ decimal n ++ codes "\n"
-
--- the line of a configuration's fault: config: FAULT
-abbrev pub config_fault_line : ConfigFault → List ℕ
-config_fault_line fault = codes "config: " ++ fault_line fault ++ codes "\n"

@@ -12,7 +12,6 @@ use Rattle.serve_wire.specs.Events.{WireEvent, is_over, time}
 use Rattle.serve_wire.specs.declared.conn.conn.Conn.{Conn}
 use Rattle.serve_wire.proofs.Steps.{equal}
 use Rattle.core_accepted.specs.declared.served.ServedCore.{ServedCore}
-use Rattle.core_accepted.specs.Late.{begins_stamp}
 use Rattle.core_accepted.specs.Results.{IsSettled}
 use Rattle.serve_links.specs.declared.calls.calls.SentCall.{SentCall}
 use Rattle.serve_links.specs.declared.calls.late_call.LateCall.{LateCall}
@@ -20,6 +19,7 @@ use Rattle.serve_links.specs.declared.calls.calls.Left.{Left}
 use Rattle.serve_links.specs.declared.settings.Greeting.{Greeting}
 use Rattle.serve_links.specs.declared.settings.LinkLimits.{LinkLimits}
 use Rattle.serve_links.specs.declared.link.Link.{Link}
+use Rattle.serve_links.specs.Stores.{changes_data}
 use Rattle.serve_links.specs.Calls.{stores_first, SparesStores, as_late, IsFirstLate, PassesOver, SettlesFirst}
 use Rattle.serve_links.specs.Lateness.{IsLate, HasLate, HasOneLate, awaits_store, LetsStoresWait}
 use Rattle.serve_links.specs.CoreSteps.{Step, Settled, Late, CameLate, IsOfTurn, IsSending}
@@ -68,7 +68,7 @@ one_more_late (first ∷ calls) call = ap (λ (l : List SaidAsk). (first.number,
 -- ---- stores that are awaited
 
 abbrev NoStore : SentCall → Type 0
-NoStore call = begins_stamp call.ticket.ask.op ≡ false
+NoStore call = changes_data call.ticket.ask.op ≡ false
 
 -- its limits and its calls are as they were
 pub waits_still : (x y : Link) → y.limits ≡ x.limits → y.calls.sent.items ≡ x.calls.sent.items → LetsStoresWait x y

@@ -120,7 +120,7 @@ out_ways first last believes (OfProxy step entries ∷ past) leads = (out_way la
 out_ways first last believes (OfServer place moment ∷ past) leads = out_ways first last believes past leads
 
 pub walks_are_fresh_late : WalksAreFreshLate
-walks_are_fresh_late steps first last tells orderly fresh opening moves same along =
+walks_are_fresh_late steps first last tells orderly opening fresh moves same along =
     let order = connections_are_in_order first last along.believes moves tells along.leads (subst IsOrderly (sym same) orderly) along.applied in
     let past = log_of moves in
     let led = led_along first along.believes tells moves last along.leads in
@@ -134,4 +134,4 @@ walks_are_fresh_late steps first last tells orderly fresh opening moves same alo
     does_own words Bars along.believes version moves follows ((part_laws words Bars).own along.believes (run_of past) (runs dialect words Bars along.believes version past follows)) along.applied along.alike
     (out_ways first last along.believes moves along.leads) (front_out last along.believes past led) in
     let core : DoesAsCore last opening (moments_in moves) = record { believes = along.believes; log = past; led = led; own = own_part words Bars (seen (moments_in moves)) own; serves = along.serves } in
-    subst (λ (l : List Moment). IsFreshBy opening WasOver l) order.0 (fresh opening (as_pipes moves) (subst (λ (l : List Moment). DoesAsCore last opening l) (sym order.0) core) order.1)
+    subst (λ (l : List Moment). IsFreshBy opening WasOver l) order.0 (fresh (as_pipes moves) (subst (λ (l : List Moment). DoesAsCore last opening l) (sym order.0) core) order.1)

@@ -12,9 +12,9 @@ use Rattle.wire_answers.specs.declared.reader.AnswerRead.TheVariants as reads
 use Rattle.core_proxy.specs.declared.proxy.Core.{Core}
 use Rattle.core_proxy.specs.Settles.{FitsCall, asked}
 use Rattle.core_accepted.specs.declared.served.ServedCore.{ServedCore}
-use Rattle.core_accepted.specs.Late.{begins_stamp}
 use Rattle.core_accepted.specs.Results.{IsSettled}
 use Rattle.serve_links.specs.Dialects.{SpellsIn, IsForeignIn, IsCutIn}
+use Rattle.serve_links.specs.Stores.{changes_data}
 use Rattle.serve_links.specs.declared.calls.calls.SentCall.{SentCall}
 use Rattle.serve_links.specs.declared.calls.late_call.LateCall.{LateCall}
 use Rattle.serve_links.specs.declared.calls.calls.Left.{Left}
@@ -39,14 +39,14 @@ abbrev pub first_asked : List SentCall → Option (ℕ × Dialect)
 first_asked [] = None
 first_asked (call ∷ sent) = Some (call.ticket.number, call.dialect)
 
--- whether the call that went out first is a store
+-- whether the call that went out first is a store: one that may put an item, or change the data of one
 abbrev pub stores_first : List SentCall → Bool
 stores_first [] = false
-stores_first (call ∷ sent) = begins_stamp call.ticket.ask.op
+stores_first (call ∷ sent) = changes_data call.ticket.ask.op
 
 -- of these calls the first ones are out no more, and none of those is a store
 abbrev pub SparesStores : List SentCall → List SentCall → Type 0
-SparesStores calls left = (gone : List SentCall) × (calls ≡ gone ++ left) × All (λ call. begins_stamp call.ticket.ask.op ≡ false) gone
+SparesStores calls left = (gone : List SentCall) × (calls ≡ gone ++ left) × All (λ call. changes_data call.ticket.ask.op ≡ false) gone
 
 -- the outcome fits what the first call asks
 abbrev pub FitsFirst : List SentCall → Core → Outcome → Type 0

@@ -15,7 +15,7 @@ use Rattle.core_accepted.specs.Late.{Moment, Lands, seen, IsFreshBy, WasOver}
 use Rattle.core_accepted.specs.Pipes as pipes
 use Rattle.core_accepted.specs.Pipes.{Sends, Moves, Closes, moments_of, behind_first, tickets_after, IsFirstIn, IsInTurn}
 use Rattle.core_accepted.specs.Parts.{ServesPipes, PipesInOrder}
-use Rattle.core_accepted.specs.LateCores.{only_line, EveryLateRunIsFresh}
+use Rattle.core_accepted.specs.LateCores.{only_line, LateRunsAreFreshFrom}
 use Rattle.serve_links.specs.CoreSteps.{Step, Opened, NotOpened, Fed, Polled, Stopped, Settled, Gave, Closed, LeftLine, Broke, Ticked, Loaded, Linked, Asked, Greeted, Spelled, Late, CameLate, Lost, Noted, Does}
 use Rattle.serve_links.specs.Called.{TellsCallsOut}
 use Rattle.serve_links.specs.Talks.{Standing, Apart, InUse, Ending, standing_after, IsOrderly}
@@ -224,11 +224,12 @@ pub record HappensAlong (opening : ℕ → List ℕ → Option Item) (moves : Li
   pub serves : ServesPipes opening (moments_in moves)
   pub applied : AreApplied moves
 
--- whatever happens at servers in these steps, and however late: a command that begins after a delete of its key was acknowledged shows no item of a store that was over when the delete began
-abbrev pub AreFreshAlong : List Step → ServedCore → ServedCore → Type 0
-AreFreshAlong steps first last =
-    (opening : ℕ → List ℕ → Option Item) (moves : List Move) → walk_of moves ≡ steps → HappensAlong opening moves first last → IsFreshBy opening WasOver (moments_in moves)
+-- whatever happens at servers that held this at first, in these steps, and however late: a command that begins after a delete of its key was acknowledged shows no item of a store that was over when the delete began
+abbrev pub AreFreshAlong : (ℕ → List ℕ → Option Item) → List Step → ServedCore → ServedCore → Type 0
+AreFreshAlong opening steps first last = (moves : List Move) → walk_of moves ≡ steps → HappensAlong opening moves first last → IsFreshBy opening WasOver (moments_in moves)
 
--- a law of all walks: where all happens in order, and the core to which they lead is fresh over connections in order, it is fresh over its own
+-- a law of all walks: where all happens in order, and the core to which they lead is fresh over connections in order to servers that held this at first, it is fresh over its own
 abbrev pub WalksAreFreshLate : Type 0
-WalksAreFreshLate = (steps : List Step) (first last : ServedCore) → TellsCallsOut [] first → IsOrderly steps → EveryLateRunIsFresh last → AreFreshAlong steps first last
+WalksAreFreshLate =
+    (steps : List Step) (first last : ServedCore) → TellsCallsOut [] first → IsOrderly steps
+    → (opening : ℕ → List ℕ → Option Item) → LateRunsAreFreshFrom opening last → AreFreshAlong opening steps first last

@@ -1,4 +1,5 @@
 pub mod Dialects
+pub mod Stores
 pub mod Calls
 pub mod Sending
 pub mod CoreSteps

@@ -7,12 +7,12 @@ use Rattle.mc_types.specs.declared.answer.Answer.{Answer}
 use Rattle.mc_types.specs.declared.call.Outcome.{Outcome}
 use Rattle.mc_types.specs.declared.call.Outcome.TheVariants.{Answered, Failed}
 use Rattle.wire_stream.specs.Spelling.{spelling_of}
-use Rattle.core_accepted.specs.Late.{begins_stamp}
 use Rattle.core_commands.specs.declared.ticket.Ticket.{Ticket}
 use Rattle.core_proxy.specs.declared.note.Poll.TheVariants as polls
 use Rattle.serve_links.specs.declared.news.Cause.{Cause}
 use Rattle.serve_links.specs.declared.news.Cause.TheVariants as causes
 use Rattle.serve_links.specs.Dialects.{asked_in, SpellsIn, GreetsAwaited, awaits_flush}
+use Rattle.serve_links.specs.Stores.{changes_data}
 use Rattle.serve_links.specs.declared.settings.Greeting.{Greeting}
 use Rattle.serve_links.specs.Lines.{first_asked_of, awaits_first, first_dialect}
 use Rattle.serve_links.specs.CoreSteps.{Obstacle, WaitedLong, StoreLate, ForeignCame, LeftAlone, ManyWait, Step, Opened, NotOpened, Fed, Polled, Stopped, Settled, Gave, Closed, LeftLine, Broke, Ticked, Loaded, Linked, Asked, Greeted, Spelled, Late, CameLate, Lost, Noted}
@@ -191,7 +191,7 @@ HasWaited limit now (said ∷ others) = (said.3 + limit < now) ⊎ HasWaited lim
 -- the call that was asked first of those that are out is a store
 abbrev pub IsStoreFirst : List SaidAsk → Type 0
 IsStoreFirst [] = ⊥
-IsStoreFirst (said ∷ others) = begins_stamp said.2.op ≡ true
+IsStoreFirst (said ∷ others) = changes_data said.2.op ≡ true
 
 -- the call of this number, which asks this, is the first of those that were late, nothing else is told before its answer, and these bytes, whatever follows them, spell this one to it, in the dialect in which it was asked
 pub record IsNextLate (number : ℕ) (ask : Ask) (answer : Answer) (bytes : List ℕ) (talk : Talk) : Type 0 where

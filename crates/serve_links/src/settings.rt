@@ -36,7 +36,8 @@ pub struct LinkLimits {
     pub fail_limit: u32,
     /// For how many milliseconds they do, before one call tries it.
     pub retry_ms: u64,
-    /// Whether a store that is out is awaited however long it takes, and those behind it with it.
+    /// Whether a store that is out, which may put an item or change the data of one, is awaited however
+    /// long it takes, and those behind it with it.
     pub stores_wait: bool,
 }
 
@@ -61,7 +62,8 @@ pub struct Settings {
     pub fail_limit: u32,
     /// For how many milliseconds they do, before one call tries it.
     pub retry_ms: u64,
-    /// Whether a store that is out is awaited however long it takes, and those behind it with it.
+    /// Whether a store that is out, which may put an item or change the data of one, is awaited however
+    /// long it takes, and those behind it with it.
     pub stores_wait: bool,
     /// After how many milliseconds in which late answers were awaited a server's connection is given up; without a number it never is.
     pub give_up_ms: Option<u64>,

@@ -2,7 +2,7 @@
 //! and cache servers, `loopback`'s far ends and `mcload`'s clients.
 //!
 //! ```text
-//! a peer --accept, connect--> Wire: sockets, of mio; or memory, of examples: each connection has a number
+//! a peer --accept, connect--> Wire: sockets, of mio; or examples_memory, of tests: each connection has a number
 //!            wait, report --> who can go on
 //!            read         --> Conn: held   --> whoever serves the peer: serve_clients, serve_links, cache_tcp, mcload
 //!            write        <-- Conn: unsent <-- its requests or replies
@@ -22,12 +22,13 @@
 #![tactic(auto)]
 
 pub mod conn;
-pub mod memory;
+pub mod listens;
 pub mod outcomes;
 pub mod record;
 pub mod sockets;
 pub mod wire;
 
+pub use listens::Listens;
 pub use outcomes::{Accepted, Connected, Lead, ReadOutcome, Ready, Report, WriteOutcome};
 pub use record::Record;
 pub use wire::Wire;

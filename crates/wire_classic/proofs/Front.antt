@@ -14,7 +14,7 @@ use Rattle.wire_classic.specs.declared.command.Stored.{Stored}
 use Rattle.wire_classic.specs.Order.{Storing, Retrieval, Storage, Swapping, Deletion, Touching, Counting}
 use Rattle.wire_classic.specs.Places.{order_in, storing_in, keys_in, ClassicLiesIn}
 use Rattle.wire_classic.specs.Grammar.{classic_grammar}
-use Rattle.wire_classic.specs.Message.{ReadsClassic, ClassicIsMeant, classic_meaning, classic_message_in}
+use Rattle.wire_classic.specs.Message.{ClassicIsMeant, classic_meaning, classic_message_in}
 
 storing_in-take : (n : ℕ) (bytes : List ℕ) (s : Stored) → SpanIsIn n s.key → storing_in (take n bytes) s ≡ storing_in bytes s
 storing_in-take n bytes s h = ap (λ (t : List ℕ). let r : Storing = record { key = t; flags = s.flags; exptime = s.exptime; length = s.length } in r) (text_at-take n bytes s.key h.within)
@@ -46,10 +46,3 @@ LiesIn-take n bytes (commands.Deletion quiet key) h = IsIn-le _ _ key (length-pa
 LiesIn-take n bytes (commands.Touching quiet key exptime) h = IsIn-le _ _ key (length-part n bytes) h
 LiesIn-take n bytes (commands.Counting op quiet key delta) h = IsIn-le _ _ key (length-part n bytes) h
 LiesIn-take n bytes (commands.Own own) h = tt
-
--- what is read after the first line is what the stream begins with
-pub reads-from_line : (bytes : List ℕ) (end used : ℕ) (r : ClassicRead) → TakesLine bytes end used → ClassicIsMeant bytes r (classic_meaning (take (used - 1) bytes) (drop used bytes)) → ReadsClassic bytes r
-reads-from_line bytes end used (reads.Request r) line h = record { placed = h.0; begins = begins_meant classic_grammar bytes end used (classic_message_in bytes r) r.used line h.1 }
-reads-from_line bytes end used (reads.Refused why n skip) line h = begins_meant classic_grammar bytes end used (Refusal why skip) n line h
-reads-from_line bytes end used reads.TooLong line h = absurd h
-reads-from_line bytes end used reads.More line h = none_begins classic_grammar bytes end used line h

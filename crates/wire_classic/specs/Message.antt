@@ -1,6 +1,5 @@
 -- Messages at the front of a stream: a line, and after a store's line its data. Source: memcached's protocol.txt, "Protocol" and "Storage commands".
 use Rattle.std.specs.Prelude.{◌≡◌, ℕ, List, length, Some, None}
-use Rattle.text_words.specs.Line.{IsTooLong}
 use Rattle.text_words.specs.Word.{text_at}
 use Rattle.wire_parts.specs.Message as parts
 use Rattle.wire_parts.specs.Message.{Served, Refusal}
@@ -48,10 +47,3 @@ ClassicIsMeant bytes (reads.Request r) found = ClassicIsPlaced bytes r × (found
 ClassicIsMeant bytes (reads.Refused why used skip) found = found ≡ Some (Refusal why skip, used)
 ClassicIsMeant bytes reads.More found = found ≡ None
 ClassicIsMeant bytes reads.TooLong found = ⊥
-
--- what the bytes of a client begin with
-abbrev pub ReadsClassic : List ℕ → ClassicRead → Type 0
-ReadsClassic bytes (reads.Request r) = IsClassicReadFrom bytes r
-ReadsClassic bytes (reads.Refused why used skip) = BeginsClassic bytes (Refusal why skip) used
-ReadsClassic bytes reads.TooLong = IsTooLong bytes
-ReadsClassic bytes reads.More = (¬ IsTooLong bytes) × ((message : ClassicMessage) (used : ℕ) → ¬ BeginsClassic bytes message used)

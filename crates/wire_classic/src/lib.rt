@@ -16,6 +16,6 @@ pub mod writer;
 
 pub use asking::Asks;
 pub use command::{ClassicRead, ClassicRequest};
-pub use reader::{read_after, read_request};
+pub use reader::read_after;
 pub use wire_parts::{ProxyCommand, RefusalReason, Skip};
 pub use writer::{write_ask, write_store_line};

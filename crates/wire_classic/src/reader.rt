@@ -4,14 +4,12 @@ ghost use Rattle.text_words.specs.Line.{TakesLine};
 ghost use Rattle.text_words.specs.Word.{IsNextWord};
 ghost use Rattle.wire_classic.specs.Grammar.{classic_block_len};
 ghost use Rattle.wire_classic.specs.Places.{order_in};
-ghost use Rattle.wire_classic.specs.Message.{ReadsClassic, ClassicIsMeant, classic_meaning};
+ghost use Rattle.wire_classic.specs.Message.{ClassicIsMeant, classic_meaning};
 
 use crate::command::{ClassicCommand, ClassicRead, ClassicRequest};
 use crate::command_line::{command, skip};
 use crate::verbs::verb;
-use text_words::ends::Line;
-use text_words::reading::line;
-use text_words::word::{Span, next_word};
+use text_words::word::Span;
 use wire_parts::{RefusalReason, Rest, Skip, after_line};
 
 fn block_len(command: &ClassicCommand) -> Option<usize>
@@ -53,30 +51,6 @@ pub fn read_after(bytes: &[u8], end: usize, used: usize, first: Span) -> Classic
                 why: RefusalReason::BadChunk,
                 used,
                 skip: Skip::ThroughNewline,
-            },
-        },
-    }
-}
-
-/// The message that the bytes begin with. It takes no memory, and time linear in its line: no data are looked at.
-///
-/// A line ends at `\n`, and one `\r` before it is dropped; its words are parted by spaces. `get`, `gets`, `gat`, `gats`,
-/// `set`, `add`, `replace`, `append`, `prepend`, `cas`, `delete`, `touch`, `incr`, `decr`, `version` and `quit` are
-/// served; every other first word is unknown, also those of the meta commands.
-///
-/// Source: memcached's protocol.txt.
-pub fn read_request(bytes: &[u8]) -> ClassicRead
-    ensures { ReadsClassic bytes.now result }
-{
-    match line(bytes) {
-        Line::More => ClassicRead::More,
-        Line::TooLong => ClassicRead::TooLong,
-        Line::At { end, used } => match next_word(&bytes[..end], 0) {
-            Some(first) => read_after(bytes, end, used, first),
-            None => ClassicRead::Refused {
-                why: RefusalReason::Unknown,
-                used,
-                skip: Skip::Nothing,
             },
         },
     }

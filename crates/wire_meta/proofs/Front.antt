@@ -16,7 +16,7 @@ use Rattle.wire_meta.specs.declared.command.MetaRead.TheVariants as reads
 use Rattle.wire_meta.specs.Flags.{values_of}
 use Rattle.wire_meta.specs.Places.{meta_order_in, flags_in, AreFlags, MetaLiesIn}
 use Rattle.wire_meta.specs.Grammar.{meta_grammar}
-use Rattle.wire_meta.specs.Message.{MetaMessage, BeginsMeta, ReadsMeta, MetaIsMeant, meta_meaning, meta_message_in}
+use Rattle.wire_meta.specs.Message.{MetaMessage, BeginsMeta, MetaIsMeant, meta_meaning, meta_message_in}
 use Rattle.wire_meta.specs.Laws.{meta_requests}
 
 flags_in-take : (n : ℕ) (bytes : List ℕ) (kind : Kind) (flags : Flags) → AreFlags kind (take n bytes) flags → flags_in (take n bytes) flags ≡ flags_in bytes flags
@@ -33,13 +33,6 @@ LiesIn-take n bytes (commands.Keyed kind len key flags) h = (
   record { span = IsIn-le _ _ flags.span (length-part n bytes) h.1.span; values = h.1.values ∙ ap (values_of kind) (flags_in-take n bytes kind flags h.1) },
 )
 LiesIn-take n bytes (commands.Own own) h = tt
-
--- what is read after the first line is what the stream begins with
-pub reads-from_line : (bytes : List ℕ) (end used : ℕ) (r : MetaRead) → TakesLine bytes end used → MetaIsMeant bytes r (meta_meaning (take (used - 1) bytes) (drop used bytes)) → ReadsMeta bytes r
-reads-from_line bytes end used (reads.Request r) line h = record { placed = h.0; begins = begins_meant meta_grammar bytes end used (meta_message_in bytes r) r.used line h.1 }
-reads-from_line bytes end used (reads.Refused why n skip) line h = begins_meant meta_grammar bytes end used (Refusal why skip) n line h
-reads-from_line bytes end used reads.TooLong line h = absurd h
-reads-from_line bytes end used reads.More line h = none_begins meta_grammar bytes end used line h
 
 pub read_still : ReadStill meta_requests
 read_still bytes more r h =

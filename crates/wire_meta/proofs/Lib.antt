@@ -1,6 +1,5 @@
 pub mod SeenLemmas
 pub mod Front
-pub mod TokenLemmas
 pub mod WriteLemmas
 pub mod ServedLemmas
 pub mod Sound

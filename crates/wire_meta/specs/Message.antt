@@ -1,6 +1,5 @@
 -- Meta messages at the front of a stream: a line, and after that of `ms` its data. Source: memcached's protocol.txt, "Meta Commands".
 use Rattle.std.specs.Prelude.{◌≡◌, ℕ, List, length, Some, None}
-use Rattle.text_words.specs.Line.{IsTooLong}
 use Rattle.text_words.specs.Word.{text_at}
 use Rattle.wire_parts.specs.Message as parts
 use Rattle.wire_parts.specs.Message.{Served, Refusal}
@@ -48,10 +47,3 @@ MetaIsMeant bytes (reads.Request r) found = IsMetaPlaced bytes r × (found ≡ S
 MetaIsMeant bytes (reads.Refused why used skip) found = found ≡ Some (Refusal why skip, used)
 MetaIsMeant bytes reads.More found = found ≡ None
 MetaIsMeant bytes reads.TooLong found = ⊥
-
--- what the bytes of a client begin with
-abbrev pub ReadsMeta : List ℕ → MetaRead → Type 0
-ReadsMeta bytes (reads.Request r) = IsMetaReadFrom bytes r
-ReadsMeta bytes (reads.Refused why used skip) = BeginsMeta bytes (Refusal why skip) used
-ReadsMeta bytes reads.TooLong = IsTooLong bytes
-ReadsMeta bytes reads.More = (¬ IsTooLong bytes) × ((message : MetaMessage) (used : ℕ) → ¬ BeginsMeta bytes message used)

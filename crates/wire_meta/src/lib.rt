@@ -12,6 +12,6 @@ pub mod verbs;
 pub mod writer;
 
 pub use command::{Kind, MetaCommand, MetaRead, MetaRequest, Verb};
-pub use reader::{read_after, read_request};
+pub use reader::read_after;
 pub use wire_parts::{ProxyCommand, RefusalReason, Skip};
 pub use writer::write_ask;

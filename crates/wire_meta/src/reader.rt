@@ -4,14 +4,12 @@ ghost use Rattle.text_words.specs.Line.{TakesLine};
 ghost use Rattle.text_words.specs.Word.{IsNextWord};
 ghost use Rattle.wire_meta.specs.Grammar.{meta_block_len};
 ghost use Rattle.wire_meta.specs.Places.{meta_order_in};
-ghost use Rattle.wire_meta.specs.Message.{ReadsMeta, MetaIsMeant, meta_meaning};
+ghost use Rattle.wire_meta.specs.Message.{MetaIsMeant, meta_meaning};
 
 use crate::command::{MetaCommand, MetaRead, MetaRequest};
 use crate::command_line::{command, skip};
 use crate::verbs::verb;
-use text_words::ends::Line;
-use text_words::reading::line;
-use text_words::word::{Span, next_word};
+use text_words::word::Span;
 use wire_parts::{RefusalReason, Rest, Skip, after_line};
 
 fn block_len(command: &MetaCommand) -> Option<usize>
@@ -55,29 +53,6 @@ pub fn read_after(bytes: &[u8], end: usize, used: usize, first: Span) -> MetaRea
                 why: RefusalReason::BadChunk,
                 used,
                 skip: Skip::ThroughNewline,
-            },
-        },
-    }
-}
-
-/// The message that the bytes begin with. It takes no memory, and time linear in its line: no data are looked at.
-///
-/// A line ends at `\n`, and one `\r` before it is dropped; its words are parted by spaces. `mg`, `ms`, `md`, `ma` and `mn`
-/// are served; every other first word is unknown, also those of the classic commands.
-///
-/// Source: memcached's protocol.txt, "Meta Commands".
-pub fn read_request(bytes: &[u8]) -> MetaRead
-    ensures { ReadsMeta bytes.now result }
-{
-    match line(bytes) {
-        Line::More => MetaRead::More,
-        Line::TooLong => MetaRead::TooLong,
-        Line::At { end, used } => match next_word(&bytes[..end], 0) {
-            Some(first) => read_after(bytes, end, used, first),
-            None => MetaRead::Refused {
-                why: RefusalReason::Unknown,
-                used,
-                skip: Skip::Nothing,
             },
         },
     }

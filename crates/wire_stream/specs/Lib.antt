@@ -11,7 +11,6 @@ pub mod Held
 pub mod TextProtocol
 pub mod ClientStreams
 pub mod Fronts
-pub mod Steps
 pub mod Form
 pub mod Reading
 pub mod Learning

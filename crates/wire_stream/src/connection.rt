@@ -1,9 +1,7 @@
 //! One client's connection: its stream and what stands at its front, its output, and how each step changes them.
 
 pub mod client_stream;
-pub mod connection;
 pub mod front;
 
 pub use client_stream::ClientStream;
-pub use connection::Connection;
 pub use front::{Front, Passed, pass};

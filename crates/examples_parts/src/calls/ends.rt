@@ -1,10 +1,10 @@
 //! An end over a wire in memory, whose far end gives and takes a few bytes at a time.
 
 use crate::far_ends::{connect, may_take, then};
+use examples_memory::{Act, Memory};
 use examples_tables::playing::{Stage, cut, first_line, plain, play_lines, shown, yes_or_no};
 use mc_types::Body;
 use serve_wire::conn::{Conn, Got, Limits, Sent};
-use serve_wire::memory::{Act, Memory};
 use std::alloc::{AllocError, Global};
 use std::test::Fail;
 

@@ -2,7 +2,8 @@
 
 ghost use Rattle.std.specs.Prelude.{◌<◌, ◌≤◌};
 
-use examples_tables::tellers::{Teller, between, wrong};
+use examples_tables::tables::same;
+use examples_tables::tellers::{Teller, all_told, between};
 use mc_types::{Key, Op, ServerId};
 use route_json::addresses::Servers;
 use route_json::{Config, ConfigFault, read_config};
@@ -468,70 +469,49 @@ impl Teller for OfNumberings {
 
 #[test]
 fn configuration_faults(rt: HostRuntime) -> Result<(), Fail> {
-    assert_eq!(rt; wrong::<OfWhole>(rt.alloc(), texts())?.as_str(), "");
+    all_told::<OfWhole>(rt.alloc(), texts())?;
     let none = ConfigFault::NoMemory.to_string(rt.alloc())?;
-    assert_eq!(rt; none.as_str(), "out of memory");
-    Ok(())
+    same("no memory", none.as_str(), "out of memory")
 }
 
 #[test]
 fn faults_of_servers(rt: HostRuntime) -> Result<(), Fail> {
-    assert_eq!(rt;
-        wrong::<OfServers>(rt.alloc(), server_lists())?.as_str(),
-        ""
-    );
-    Ok(())
+    all_told::<OfServers>(rt.alloc(), server_lists())
 }
 
 #[test]
 fn faults_of_tables(rt: HostRuntime) -> Result<(), Fail> {
-    assert_eq!(rt; wrong::<OfServers>(rt.alloc(), tables())?.as_str(), "");
-    Ok(())
+    all_told::<OfServers>(rt.alloc(), tables())
 }
 
 #[test]
 fn faults_of_limits(rt: HostRuntime) -> Result<(), Fail> {
-    assert_eq!(rt; wrong::<OfServers>(rt.alloc(), limits())?.as_str(), "");
-    Ok(())
+    all_told::<OfServers>(rt.alloc(), limits())
 }
 
 #[test]
 fn faults_of_routes(rt: HostRuntime) -> Result<(), Fail> {
-    assert_eq!(rt; wrong::<OfRoutes>(rt.alloc(), routes())?.as_str(), "");
-    Ok(())
+    all_told::<OfRoutes>(rt.alloc(), routes())
 }
 
 #[test]
 fn usual_set_ups(rt: HostRuntime) -> Result<(), Fail> {
-    assert_eq!(rt; wrong::<OfSetUps>(rt.alloc(), set_ups())?.as_str(), "");
-    Ok(())
+    all_told::<OfSetUps>(rt.alloc(), set_ups())
 }
 
 #[test]
 fn weighted_pools(rt: HostRuntime) -> Result<(), Fail> {
-    assert_eq!(rt;
-        wrong::<OfWeightedPools>(rt.alloc(), weighted_set_ups())?.as_str(),
-        ""
-    );
-    Ok(())
+    all_told::<OfWeightedPools>(rt.alloc(), weighted_set_ups())
 }
 
 #[test]
 fn pools_with_tables(rt: HostRuntime) -> Result<(), Fail> {
-    assert_eq!(rt;
-        wrong::<OfTables>(rt.alloc(), table_set_ups())?.as_str(),
-        ""
-    );
-    Ok(())
+    all_told::<OfTables>(rt.alloc(), table_set_ups())
 }
 
 #[test]
 fn servers_by_first_appearance(rt: HostRuntime) -> Result<(), Fail> {
-    assert_eq!(rt;
-        wrong::<OfNumberings>(rt.alloc(), numberings())?.as_str(),
-        ""
-    );
-    Ok(())
+    all_told::<OfNumberings>(rt.alloc(), numberings())
 }
 
 // What a configuration of one pool shows.
@@ -554,12 +534,18 @@ fn last_of_pool(alloc: Global, count: u32, last: u32) -> Result<String, AllocErr
     format!(in alloc; "{} {text}", servers.len())
 }
 
+fn small_pool(alloc: Global) -> Result<(), Fail> {
+    let shown = pool_shown(alloc, 3)?;
+    same("a pool of 3", shown.as_str(), "Pool s0:1 s1:1 s2:1")
+}
+
+fn large_pool(alloc: Global) -> Result<(), Fail> {
+    let last = last_of_pool(alloc, 1024, 1023)?;
+    same("a pool of 1024", last.as_str(), "1024 s1023:1")
+}
+
 #[test]
 fn one_pool(rt: HostRuntime) -> Result<(), Fail> {
-    assert_eq!(rt; pool_shown(rt.alloc(), 3)?.as_str(), "Pool s0:1 s1:1 s2:1");
-    assert_eq!(rt;
-        last_of_pool(rt.alloc(), 1024, 1023)?.as_str(),
-        "1024 s1023:1"
-    );
-    Ok(())
+    small_pool(rt.alloc())?;
+    large_pool(rt.alloc())
 }

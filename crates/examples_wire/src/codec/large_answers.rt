@@ -63,6 +63,14 @@ fn large_data_are_shared_and_read_alike(rt: HostRuntime) -> Result<(), Fail> {
     Ok(())
 }
 
+// That this line begins an answer of so many bytes, if it begins a large one.
+fn same_len(from: usize, line: &[u8], wanted: Option<usize>) -> Result<(), Fail> {
+    if large_len(from, line) == wanted {
+        return Ok(());
+    }
+    Err(Fail::new(format_args!("another length: {}", line.escape_ascii())))
+}
+
 #[test]
 fn small_answers_have_no_large_len(rt: HostRuntime) -> Result<(), Fail> {
     for line in [
@@ -72,19 +80,12 @@ fn small_answers_have_no_large_len(rt: HostRuntime) -> Result<(), Fail> {
         b"HD\r\n".as_slice(),
         b"STORED\r\n".as_slice(),
     ] {
-        assert_eq!(rt; large_len(SHARED_FROM, line), None);
+        same_len(SHARED_FROM, line, None)?;
     }
-    assert_eq!(rt;
-        large_len(SHARED_FROM, b"VALUE k 5 65536\r\n"),
-        Some(65_560)
-    );
-    assert_eq!(rt;
-        large_len(SHARED_FROM, b"VA 1048576 f5\r\n"),
-        Some(1_048_593)
-    );
-    assert_eq!(rt; large_len(CUT_FROM, b"VA 2047 f5\r\n"), None);
-    assert_eq!(rt; large_len(CUT_FROM, b"VA 2048 f5\r\n"), Some(2_062));
-    Ok(())
+    same_len(SHARED_FROM, b"VALUE k 5 65536\r\n", Some(65_560))?;
+    same_len(SHARED_FROM, b"VA 1048576 f5\r\n", Some(1_048_593))?;
+    same_len(CUT_FROM, b"VA 2047 f5\r\n", None)?;
+    same_len(CUT_FROM, b"VA 2048 f5\r\n", Some(2_062))
 }
 
 // So many bytes of this kind in a buffer that may be shared.
@@ -133,21 +134,47 @@ fn is_sent_alike(alloc: Global, ask: &Ask, reply: &Answer, last: bool) -> Result
     Ok(!sent.pieces.is_empty() && sent.to_vec(alloc)?.as_slice() == written.as_slice())
 }
 
+fn large_body(alloc: Global) -> Result<Body, AllocError> {
+    Body::from_slice(alloc, answer_text(alloc, b"", b"")?.as_slice())
+}
+
+fn hit_of(body: Body) -> Answer {
+    Answer::Hit {
+        flags: 5,
+        body,
+        cas: None,
+    }
+}
+
+fn value_of(body: Body) -> Answer {
+    let mut fields = Fields::none();
+    fields.body = Some(body);
+    Answer::Meta(Code::Va, fields)
+}
+
+// The same of the first ask of a request.
+fn is_reply_sent_alike(
+    alloc: Global,
+    request: &[u8],
+    reply: &Answer,
+    last: bool,
+) -> Result<bool, Fail> {
+    Ok(is_sent_alike(alloc, &ask_of(alloc, request)?, reply, last)?)
+}
+
+fn is_hit_sent_alike(alloc: Global, last: bool) -> Result<bool, Fail> {
+    is_reply_sent_alike(alloc, b"get k\r\n", &hit_of(large_body(alloc)?), last)
+}
+
+fn is_value_sent_alike(alloc: Global) -> Result<bool, Fail> {
+    is_reply_sent_alike(alloc, b"mg a v\r\n", &value_of(large_body(alloc)?), true)
+}
+
 #[test]
 fn large_data_are_sent_as_they_are_written(rt: HostRuntime) -> Result<(), Fail> {
     let alloc = rt.alloc();
-    let body = Body::from_slice(alloc, answer_text(alloc, b"", b"")?.as_slice())?;
-    let get = ask_of(alloc, b"get k\r\n")?;
-    let hit = Answer::Hit {
-        flags: 5,
-        body: body.copy()?,
-        cas: None,
-    };
-    assert!(rt; is_sent_alike(alloc, &get, &hit, true)?);
-    assert!(rt; is_sent_alike(alloc, &get, &hit, false)?);
-    let meta_get = ask_of(alloc, b"mg a v\r\n")?;
-    let mut fields = Fields::none();
-    fields.body = Some(body);
-    assert!(rt; is_sent_alike(alloc, &meta_get, &Answer::Meta(Code::Va, fields), true)?);
+    assert!(rt; is_hit_sent_alike(alloc, true)?);
+    assert!(rt; is_hit_sent_alike(alloc, false)?);
+    assert!(rt; is_value_sent_alike(alloc)?);
     Ok(())
 }

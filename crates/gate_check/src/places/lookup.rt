@@ -1,16 +1,15 @@
-//! Rows of tables and certificates, and the place of a key. None of these calls takes memory.
+//! Rows of tables, and the place of a key. None of these calls takes memory.
 
-ghost use Rattle.std.specs.Prelude.{◌≡◌, ℕ, ◌<◌, ◌≤◌, [], ◌∷◌, Some, None, map, length, slice_get};
+ghost use Rattle.std.specs.Prelude.{◌≡◌, ◌<◌, ◌≤◌, [], ◌∷◌, map};
 ghost use Rattle.route_tree.specs.Route.{Route};
 ghost use Rattle.route_tree.specs.Place.{IsPlaceOf};
 ghost use Rattle.gate_check.specs.declared.places.table.Class.{Class};
-ghost use Rattle.gate_check.specs.declared.places.table.ClassRows.{ClassRows};
-ghost use Rattle.gate_check.specs.Valid.{IsTableOf, row_at, run_at};
+ghost use Rattle.gate_check.specs.Valid.{IsTableOf};
 ghost use Rattle.gate_check.specs.Tables.{most_rows, row_count};
 ghost use Rattle.gate_check.specs.Lookup.{IsPlaceOfRow, longest_in, longer};
 
-use crate::places::table::{Certificate, Class, ClassRows, PlaceTable, Run};
-use mc_types::{Key, ServerId};
+use crate::places::table::{Class, PlaceTable};
+use mc_types::Key;
 use route_tree::{Place, key_hash};
 
 impl PlaceTable {
@@ -46,14 +45,6 @@ impl PlaceTable {
             residue: row % self.modulus,
             modulus: self.modulus,
         }
-    }
-
-    /// The modulus of the class of this index.
-    pub fn modulus_of(&self, class: usize) -> u32
-        requires { class < length self.now.classes.items }
-        ensures { (c : Class) → slice_get self.now.classes.items class ≡ Some c → result ≡ c.modulus }
-    {
-        self.classes[class].modulus
     }
 }
 
@@ -91,40 +82,5 @@ fn longer(prefix: &Option<Key>, best: Option<Key>, key: &Key) -> Option<Key>
                 }
             }
         }
-    }
-}
-
-impl ClassRows {
-    /// The row of a residue, of any modulus that the class's divides.
-    pub fn row(&self, residue: u32) -> &[ServerId]
-        requires { 0 < self.now.modulus }
-        ensures { result.now ≡ row_at self.now residue }
-    {
-        row_from(&self.runs, residue % self.modulus)
-    }
-}
-
-// The servers of the last run that begins at the residue or before it.
-fn row_from<'a>(runs: &'a [Run], residue: u32) -> &'a [ServerId]
-    ensures { result.now ≡ run_at [] runs.now residue }
-{
-    let mut servers: &'a [ServerId] = &[];
-    for run in runs {
-        if residue < run.first {
-            return servers;
-        }
-        servers = &run.servers;
-    }
-    servers
-}
-
-impl Certificate {
-    /// The row of a residue of the class of this index.
-    pub fn row(&self, class: usize, residue: u32) -> &[ServerId]
-        requires class { class < length self.now.classes.items }
-        requires some { (rows : ClassRows) → slice_get self.now.classes.items class ≡ Some rows → 0 < rows.modulus }
-        ensures { (rows : ClassRows) → slice_get self.now.classes.items class ≡ Some rows → result.now ≡ row_at rows residue }
-    {
-        self.classes[class].row(residue)
     }
 }

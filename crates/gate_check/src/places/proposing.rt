@@ -1,12 +1,11 @@
 //! Certificates by which trees are judged. What checks a certificate uses nothing of this file.
 
-ghost use Rattle.std.specs.Prelude.{◌≡◌, ◌↔◌, ◌<◌, [], ◌∷◌, IfOk, IsTrue, MatchResult, length};
-ghost use Rattle.gate_check.specs.Tables.{IsTable, IsPlaceFault};
-ghost use Rattle.gate_check.specs.Proposed.{IsProposal, last_of, IsLastRun, IsWithRun, AreProposed, IsProposedBy};
+ghost use Rattle.std.specs.Prelude.{◌≡◌, ◌↔◌, ◌<◌, [], ◌∷◌, IfOk, IsTrue, length};
+ghost use Rattle.gate_check.specs.Tables.{IsTable};
+ghost use Rattle.gate_check.specs.Proposed.{last_of, IsLastRun, IsWithRun, AreProposed, IsProposedBy};
 
-use crate::places::making::places;
 use crate::places::rows::put_row;
-use crate::places::table::{Certificate, Class, ClassRows, PlaceFault, PlaceTable, Run};
+use crate::places::table::{Certificate, Class, ClassRows, PlaceTable, Run};
 use gate_coverage::pools::taken_pools;
 use mc_types::ServerId;
 use route_tree::Tree;
@@ -72,7 +71,10 @@ fn class_rows(
     })
 }
 
-/// The certificate of the tree's table, as `propose` makes it. The only error is that memory was refused.
+/// The certificate that the tree is judged by: the table's classes with their moduli, and at each place the servers that
+/// reads take, rising, so that each row that has no gap is valid. Neighbouring residues with equal rows share a run.
+///
+/// The only error is that memory was refused.
 pub fn propose_by(alloc: Global, tree: &Tree, table: &PlaceTable) -> Result<Certificate, AllocError>
     requires { IsTable (tree.now ∷ []) table.now }
     ensures { IfOk result (λ certificate. IsProposedBy tree.now table.now certificate) }
@@ -82,20 +84,4 @@ pub fn propose_by(alloc: Global, tree: &Tree, table: &PlaceTable) -> Result<Cert
         classes.push(class_rows(alloc, tree, &table.classes[index], table.modulus)?)?;
     }
     Ok(Certificate { classes })
-}
-
-/// The certificate that the tree is judged by: the table's classes with their moduli, and at each place the servers that
-/// reads take, rising, so that each row that has no gap is valid. Neighbouring residues with equal rows share a run.
-///
-/// `TooManyPlaces` comes exactly where there would be more than 262,144 rows, `NoMemory` where memory was refused.
-pub fn propose(alloc: Global, tree: &Tree) -> Result<Certificate, PlaceFault>
-    ensures { MatchResult result (IsProposal tree.now) (IsPlaceFault (tree.now ∷ [])) }
-{
-    match places(alloc, tree) {
-        Ok(table) => match propose_by(alloc, tree, &table) {
-            Ok(certificate) => Ok(certificate),
-            Err(_) => Err(PlaceFault::NoMemory),
-        },
-        Err(fault) => Err(fault),
-    }
 }

@@ -1,31 +1,23 @@
 //! Configurations of a fleet, judged: each by itself, and then all together.
 
-ghost use Rattle.std.specs.Prelude.{◌≡◌, ◌+◌, ◌++◌, ◌∷◌, ◌<◌, ◌^◌, [], IfErr, IfOk, OnOk, length};
+ghost use Rattle.std.specs.Prelude.{◌≡◌, ◌+◌, ◌++◌, ◌∷◌, ◌<◌, ◌^◌, [], IfErr, IfOk, length};
 ghost use Rattle.std.specs.Io.KnownBytes.{Appends};
-ghost use Rattle.mcgate_check.specs.Checking.{StopsUnwritten};
-ghost use Rattle.mcgate_args.specs.Fleets.{AddsRead, AreRead, ChecksAlone, ChecksFleet, ChecksTogether, FindsRefused, IsToldFault, JudgesAlone, SaysFault, fleet_fault_line, name_at};
+ghost use Rattle.mcgate_lines.specs.Faults.{StopsUnwritten};
+ghost use Rattle.mcgate_args.specs.Fleets.{AddsRead, AreRead, ChecksAlone, ChecksFleet, ChecksTogether, FindsRefused, IsToldFault, JudgesAlone, SaysFault};
+ghost use Rattle.mcgate_ends.specs.FleetFaults.{fleet_fault_line};
 
-use crate::fleets::lines::{
-    write_copying, write_fleet, write_many_files, write_many_places, write_pair_gap,
-};
 use core_accepted::fleets::gates::judging::{FleetFault, judge_fleet};
 use gate_check::judge;
 use gate_check::reloading::MOST_GENERATIONS;
-use mcgate_check::RunFault;
-use mcgate_check::checking::{check_refused, print_fault};
-use mcgate_check::status::{BAD_INPUT, DONE, REFUSED};
+use mcgate_check::checking::check_refused;
+use mcgate_ends::fleets::faults::{FleetFile, write_fleet_fault};
+use mcgate_ends::fleets::lines::{write_fleet, write_many_files};
+use mcgate_lines::RunFault;
+use mcgate_lines::faults::{print_fault, write_config_fault};
+use mcgate_lines::status::{BAD_INPUT, DONE, REFUSED};
 use route_json::{Config, ConfigFault, Servers, read_config, read_config_after};
-use script_events::text::printer::write_config_fault;
 use std::alloc::{AllocError, Global};
-use std::io;
 use std::io::Write;
-
-/// A file of a configuration: what it is called, and its text.
-#[derive(Drop)]
-pub struct FleetFile<'a> {
-    pub name: &'a str,
-    pub text: String,
-}
 
 /// How the check of a fleet ended: its exit status, and the number of the file that isn't accepted by itself, if there is one, counted
 /// from 0.
@@ -105,51 +97,6 @@ fn print_unread<W: Write>(fault: &ConfigFault, out: &mut W) -> Result<u8, RunFau
             write_config_fault(told, out)?;
             Ok(BAD_INPUT)
         }
-    }
-}
-
-// How the file of this number is called.
-fn name_at<'a>(files: &[FleetFile<'a>], index: usize) -> &'a str
-    ensures { result.now ≡ name_at files.now index }
-{
-    match files.get(index) {
-        Some(file) => file.name,
-        None => "",
-    }
-}
-
-/// Writes the line of a fault; running out of memory has none.
-pub(super) fn write_fleet_fault<W: Write>(
-    files: &[FleetFile<'_>],
-    configs: &[Config],
-    fault: &FleetFault,
-    out: &mut W,
-) -> io::Result<()>
-    ensures { OnOk result (Appends (W.contents out.old) (W.contents out.new) (fleet_fault_line files.now configs.now fault.now)) }
-{
-    match fault {
-        FleetFault::Copies(index, prefix) => match configs.get(*index) {
-            Some(config) => write_copying(name_at(files, *index), config.tree(), prefix, out),
-            None => Ok(()),
-        },
-        FleetFault::TooManyPlaces { reads, deletes } => {
-            write_many_places(name_at(files, *reads), name_at(files, *deletes), out)
-        }
-        FleetFault::Uncovered {
-            reads,
-            deletes,
-            gap,
-        } => match configs.get(*reads) {
-            Some(config) => write_pair_gap(
-                config.servers(),
-                name_at(files, *reads),
-                name_at(files, *deletes),
-                gap,
-                out,
-            ),
-            None => Ok(()),
-        },
-        FleetFault::NoMemory => Ok(()),
     }
 }
 

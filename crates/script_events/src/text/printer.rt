@@ -1,13 +1,11 @@
 //! The lines that a run prints.
 
-ghost use Rattle.std.specs.Prelude.{OnOk, IsSome, map};
+ghost use Rattle.std.specs.Prelude.{OnOk, map};
 ghost use Rattle.std.specs.Io.KnownBytes.{Appends};
 ghost use Rattle.script_events.specs.Scripted.{output_shown};
-ghost use Rattle.route_json.specs.Fault.{fault_of};
-ghost use Rattle.script_events.specs.Printed.{shown_lines, report_line, bad_line_line, config_fault_line};
+ghost use Rattle.script_events.specs.Printed.{shown_lines, report_line, bad_line_line};
 
 use crate::{Output, Report};
-use route_json::ConfigFault;
 use std::io;
 use std::io::Write;
 use text_words::escapes::Escaped;
@@ -39,13 +37,4 @@ pub fn write_bad_line<W: Write>(line: usize, out: &mut W) -> io::Result<()>
     ensures { OnOk result (Appends (W.contents out.old) (W.contents out.new) (bad_line_line line)) }
 {
     writeln!(out, "script: bad line {line}")
-}
-
-/// Writes the fault of the script's configuration: `config: ` and what [`ConfigFault`] prints. Running out of memory is none. The format is
-/// mcgate's own.
-pub fn write_config_fault<W: Write>(fault: &ConfigFault, out: &mut W) -> io::Result<()>
-    requires { IsSome (fault_of fault.now) }
-    ensures { OnOk result (Appends (W.contents out.old) (W.contents out.new) (config_fault_line fault.now)) }
-{
-    writeln!(out, "config: {fault}")
 }

@@ -7,7 +7,7 @@ ghost use Rattle.wire_parts.specs.Sending.{bytes_of};
 ghost use Rattle.mc_types.specs.declared.ask.Dialect.TheVariants.{Meta};
 ghost use Rattle.wire_stream.specs.Usual.{IsUsualTo};
 ghost use Rattle.serve_links.specs.Dialects.{asked_in};
-ghost use Rattle.core_accepted.specs.Late.{begins_stamp};
+ghost use Rattle.serve_links.specs.Stores.{changes_data};
 ghost use Rattle.core_accepted.specs.Results.{IsSettled};
 ghost use Rattle.serve_links.specs.Calls.{IsReadFor, IsReadNext, IsFirstLate, IsReadLate, as_late, first_asked, stores_first, FitsFirst, SettlesFirst, SettlesNext};
 ghost use Rattle.mc_types.specs.declared.call.Outcome.TheVariants.{Failed};
@@ -101,20 +101,17 @@ pub fn fail_call(core: &mut ServedCore, ticket: Ticket)
     let _ = core.settle(ticket, Outcome::Failed);
 }
 
-// Whether a call of this operation begins an item anew.
-fn begins_item(op: Op) -> bool
-    ensures { result ≡ begins_stamp op }
+// Whether a call of this operation may put an item, or change the data of one. A touch or a gat that a
+// server applies late changes only when an item expires, and a late delete takes one away: after the item
+// was deleted and stored again, neither mixes other data into it.
+fn changes_data(op: Op) -> bool
+    ensures { result ≡ changes_data op }
 {
     match op {
-        Op::Set | Op::Add | Op::Replace | Op::Cas => true,
-        Op::Get
-        | Op::Gat
-        | Op::Append
-        | Op::Prepend
-        | Op::Delete
-        | Op::Incr
-        | Op::Decr
-        | Op::Touch => false,
+        Op::Set | Op::Add | Op::Replace => true,
+        Op::Append | Op::Prepend | Op::Cas => true,
+        Op::Incr | Op::Decr => true,
+        Op::Get | Op::Gat | Op::Touch | Op::Delete => false,
     }
 }
 
@@ -347,12 +344,13 @@ impl LinkCalls {
         }
     }
 
-    /// Whether the call in front is a store: a set, an add, a replace or a cas.
+    /// Whether the call in front is a store: a set, an add, a replace, an append, a prepend, a cas, an incr or
+    /// a decr, in either dialect.
     pub fn awaits_store(&self) -> bool
         ensures { result ≡ stores_first self.now.sent.items }
     {
         match self.sent.front() {
-            Some(call) => begins_item(call.ticket.ask.get().op),
+            Some(call) => changes_data(call.ticket.ask.get().op),
             None => false,
         }
     }

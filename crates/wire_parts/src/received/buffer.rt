@@ -44,6 +44,28 @@ fn put_both(growing: &mut BytesMut, first: &[u8], second: &[u8]) -> Result<(), A
     written
 }
 
+// The least bytes of a piece for which a new buffer is made of them, in place of one that is first
+// filled with zeros.
+const MADE_FROM: usize = 16_384;
+
+// Appends a slice. The only error is running out of memory, which leaves the buffer as it was.
+fn grow(growing: &mut BytesMut, piece: &[u8]) -> Result<(), AllocError>
+    ensures ok { OnOk result (growing.new.items ≡ growing.old.items ++ piece.now) }
+    ensures err { OnErr result (growing.new.items ≡ growing.old.items) }
+{
+    if piece.len() < MADE_FROM || growing.try_reclaim(piece.len()) {
+        return growing.extend_from_slice(piece);
+    }
+    let alloc = *growing.allocator();
+    let len = growing.len();
+    // Doubles the room at least, so that a message of many pieces is seldom copied.
+    let mut bytes = Vec::with_capacity(alloc, len.saturating_add(piece.len().max(len)))?;
+    bytes.extend_from_slice(growing.as_slice())?;
+    bytes.extend_from_slice(piece)?;
+    *growing = BytesMut::from_vec(bytes);
+    Ok(())
+}
+
 impl ReceiveBuffer {
     /// No bytes. It takes no memory.
     pub fn new(alloc: Global) -> ReceiveBuffer
@@ -81,7 +103,7 @@ impl ReceiveBuffer {
         ensures err { OnErr result (self.new ≡ self.old) }
     {
         match &self.frozen {
-            None => self.growing.extend_from_slice(piece),
+            None => grow(&mut self.growing, piece),
             Some(frozen) => {
                 // The bytes have to lie in one piece, so what is frozen is copied.
                 put_both(&mut self.growing, frozen.as_slice(), piece)?;

@@ -1,7 +1,7 @@
 use Rattle.mcgate_loopback.specs.Running.{RunsLoopback}
-use Rattle.mcgate_args.specs.Program.{NeverOverruns}
+use Rattle.mcgate_ends.specs.Ends.{NeverOverruns}
 use Rattle.mcgate.specs.OverTcp.{LoopMemoryRefused}
-use Rattle.mcgate_args.proofs.StopLemmas.{ran, never}
+use Rattle.mcgate_ends.proofs.StopLemmas.{ran, never}
 use Rattle.mcgate.proofs.over_tcp.loop_text.Goals as goal
 
 pub returns : goal.returns

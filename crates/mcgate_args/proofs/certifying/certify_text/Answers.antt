@@ -1,6 +1,7 @@
 use Rattle.mcgate_check.specs.Certifying.{Certifies}
-use Rattle.mcgate_args.specs.Program.{NeverOverruns, WritesNothing}
-use Rattle.mcgate_args.proofs.StopLemmas.{ran, never}
+use Rattle.mcgate_args.specs.Program.{WritesNothing}
+use Rattle.mcgate_ends.specs.Ends.{NeverOverruns}
+use Rattle.mcgate_ends.proofs.StopLemmas.{ran, never}
 use Rattle.mcgate_args.proofs.certifying.certify_text.Goals as goal
 
 pub returns : goal.returns

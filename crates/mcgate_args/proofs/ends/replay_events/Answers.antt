@@ -1,7 +1,7 @@
 use Rattle.std.proofs.Common.{Ok}
 use Rattle.script_events.specs.Told.{told_over}
 use Rattle.mcgate_replay.specs.Replay.{ReplaysOver, Overran, IsBrokenOff}
-use Rattle.mcgate_args.proofs.StopLemmas.{ran}
+use Rattle.mcgate_ends.proofs.StopLemmas.{ran}
 use Rattle.mcgate_args.proofs.ends.replay_events.Goals as goal
 
 pub returns : goal.returns

@@ -1,5 +1,5 @@
 use Rattle.mcgate_args.specs.Program.{DoesTask, MemoryRefused, Overruns}
-use Rattle.mcgate_args.proofs.StopLemmas.{ran}
+use Rattle.mcgate_ends.proofs.StopLemmas.{ran}
 use Rattle.mcgate_args.proofs.ends.run_text.Goals as goal
 
 pub returns : goal.returns

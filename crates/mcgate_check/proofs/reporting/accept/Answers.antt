@@ -5,7 +5,7 @@ use Rattle.gate_check.specs.Gate.{IsCertified}
 use Rattle.mcgate_check.specs.Checking.{PrintsAccepted}
 use Rattle.mcgate_check.specs.Explaining.{ExplainsAccepted}
 use Rattle.mcgate_check.specs.Reporting.{AcceptedIn}
-use Rattle.mcgate_check.specs.declared.reporting.Form.{Form}
+use Rattle.mcgate_lines.specs.declared.verdict.Form.{Form}
 use Rattle.mcgate_check.proofs.reporting.accept.Goals as goal
 
 pub print_accepted_by-requires-clause-certified : goal.print_accepted_by-requires-clause-certified

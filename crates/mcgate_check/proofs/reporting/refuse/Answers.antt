@@ -1,7 +1,7 @@
 use Rattle.std.proofs.Common.{◌≡◌, sym, subst}
 use Rattle.std.specs.Prelude.{IfOk}
 use Rattle.mcgate_check.specs.Reporting.{RefusedIn}
-use Rattle.mcgate_check.specs.declared.reporting.Form.{Form}
+use Rattle.mcgate_lines.specs.declared.verdict.Form.{Form}
 use Rattle.mcgate_check.proofs.reporting.refuse.Goals as goal
 
 pub returns-in-Lines-clause-ok : goal.returns-in-Lines-clause-ok

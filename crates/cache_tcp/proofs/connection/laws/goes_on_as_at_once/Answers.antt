@@ -1,5 +1,0 @@
-use Rattle.cache_tcp.proofs.Whole.{goes_on}
-use Rattle.cache_tcp.proofs.connection.laws.goes_on_as_at_once.Goals as goal
-
-pub returns : goal.returns
-returns c = goes_on

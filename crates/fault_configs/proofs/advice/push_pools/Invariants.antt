@@ -1,0 +1,9 @@
+use denote.Text.{Utf8}
+use denote.Shadow.{shadow}
+use Rattle.fault_configs.proofs.advice.push_pools.Given as goal
+
+abbrev pub invariant-loop-name : goal.invariant-loop-name
+invariant-loop-name l =
+    (goal.iterator-loop-name).can_next l.name-iterator ×
+    (goal.iterator-loop-name).is_finite l.name-iterator ×
+    shadow (Utf8 l.mark)

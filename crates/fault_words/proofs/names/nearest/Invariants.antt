@@ -1,6 +1,0 @@
-use Rattle.std.proofs.Common.{IfSome}
-use Rattle.std.specs.List.{IsAmong}
-use Rattle.fault_words.proofs.names.nearest.Given as goal
-
-abbrev pub invariant-loop-name : goal.invariant-loop-name
-invariant-loop-name l = IfSome l.found (IsAmong l.names)

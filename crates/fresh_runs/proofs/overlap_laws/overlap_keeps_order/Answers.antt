@@ -1,5 +1,0 @@
-use Rattle.fresh_runs.proofs.OverlapKeys.{one_own}
-use Rattle.fresh_runs.proofs.overlap_laws.overlap_keeps_order.Goals as goal
-
-pub returns : goal.returns
-returns g c = one_own g.S.SharedSetting.words g.S.SharedSetting.bars g.S.SharedSetting.opening

@@ -1,0 +1,60 @@
+//! The laws of cores on accepted trees: of a fleet of them, of several one after another, and of one before servers that were
+//! emptied. Each is a function whose contract is the law.
+
+ghost use Rattle.std.specs.Prelude.{◌≡◌, Some};
+ghost use Rattle.core_accepted.specs.Known.{Known};
+ghost use Rattle.fresh_theory.specs.Cores.{FleetOfCoresIsFresh, LateFleetOfCoresIsFresh, StickyFleetOfCoresIsFresh};
+ghost use Rattle.fresh_theory.specs.Grown.{GrownLogsAreFresh};
+ghost use Rattle.fresh_theory.specs.InTurn.{RunsInTurnAreFresh};
+ghost use Rattle.fresh_theory.specs.LateCores.{EveryLateRunFromEmptiedIsFresh};
+
+use core_accepted::ServedCore;
+use core_accepted::laws::accepted_trees_are_sound;
+
+/// Any number of cores, on trees that cover one another as far as they may be in use together and copy nothing, before the same
+/// servers, which only they write, and where a store that failed was applied before or never is: whatever they and the servers
+/// do, a command that begins at any of them after a delete of its key was acknowledged at any of them shows no item of a store
+/// that was over when the delete began.
+pub fn fleet_of_cores_is_fresh()
+    ensures { FleetOfCoresIsFresh }
+{}
+
+/// Any number of cores, on trees that cover one another as far as they may be in use together and copy nothing, before the same
+/// servers, which only they write, and which apply what came over a connection in order, however late: whatever they and the
+/// servers do, a command that begins at any of them after a delete of its key was acknowledged at any of them shows no item of a
+/// store that was over when the delete began, but for stores that had failed over another connection than the delete's.
+pub fn late_fleet_of_cores_is_fresh()
+    ensures { LateFleetOfCoresIsFresh }
+{}
+
+/// Any number of cores, on trees that cover one another as far as they may be in use together and copy nothing, before the same
+/// servers, which only they write, and which apply what came over a connection in order, however late; and whatever core runs
+/// it, each command sends over the connections of its key. Then, whatever they and the servers do, a command that begins at any of
+/// them after a delete of its key was acknowledged at any of them shows no item of a store that was over when the delete began.
+pub fn sticky_fleet_of_cores_is_fresh()
+    ensures { StickyFleetOfCoresIsFresh }
+{}
+
+/// Each log that may have led to a core on sound generations is fresh, where servers held at the beginning what their
+/// kind says, and nobody else writes them; where each command has its key alone, by numbers too, and no stale reply is
+/// counted.
+pub fn grown_logs_are_fresh()
+    ensures { GrownLogsAreFresh }
+{}
+
+/// Several runs of a program one after another before the same servers, which nobody else writes, are fresh together,
+/// where each begins with the history that the one before wrote: the gate accepted its configurations one after another,
+/// each command runs by the tree that was loaded when it began, and calls of a run that ended were applied before the
+/// next one began, or never are. A command that begins in any run after a delete of its key was acknowledged in any shows
+/// no item of a store that was over when the delete began.
+pub fn runs_in_turn_are_fresh()
+    ensures { RunsInTurnAreFresh }
+{}
+
+/// One core on trees that the gate accepted is fresh so, too, where servers were emptied before they were first called: what they
+/// held doesn't count.
+pub fn emptied_late_core_is_fresh(core: &ServedCore)
+    ensures { (known : Known) → core.now.accepted ≡ Some known → EveryLateRunFromEmptiedIsFresh known core.now }
+{
+    accepted_trees_are_sound(core);
+}

@@ -1,5 +1,0 @@
-use Rattle.gate_growth.proofs.Emptied as lemmas
-use Rattle.gate_growth.proofs.runs.untouched_laws.emptied_is_fresh.Goals as goal
-
-pub returns : goal.returns
-returns g c = lemmas.emptied_is_fresh g.W.HasOpening.words g.W.HasOpening.bars g.W.HasOpening.opening

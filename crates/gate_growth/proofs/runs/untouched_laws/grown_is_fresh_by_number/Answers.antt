@@ -1,5 +1,0 @@
-use Rattle.fresh_runs.proofs.UntouchedFresh.{fresh_by_number}
-use Rattle.gate_growth.proofs.runs.untouched_laws.grown_is_fresh_by_number.Goals as goal
-
-pub returns : goal.returns
-returns g c = fresh_by_number g.W.HasOpening.words g.W.HasOpening.bars g.W.HasOpening.opening

@@ -1,5 +1,0 @@
-use Rattle.gate_gaps.proofs.Written.{both_written}
-use Rattle.mcgate_args.proofs.fleets.lines.write_many_places.Goals as goal
-
-pub returns : goal.returns
-returns g c = both_written _ _ _ _ _ (both_written _ _ _ _ _ c.in_ok-write.ensures.bytes c.in_ok-write_pair.ensures) c.in_ok-writeln.ensures.bytes

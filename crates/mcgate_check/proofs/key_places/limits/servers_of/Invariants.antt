@@ -1,6 +1,0 @@
-use Rattle.std.proofs.Common.{◌≡◌, take}
-use Rattle.mcgate_check.specs.LimitLines.{plan_servers}
-use Rattle.mcgate_check.proofs.key_places.limits.servers_of.Given as goal
-
-abbrev pub invariant-loop-op : goal.invariant-loop-op
-invariant-loop-op l = l.servers.items ≡ plan_servers l.plain (take l.op-index l.ops)

@@ -1,5 +1,0 @@
-use Rattle.std.proofs.Common.{length}
-use Rattle.mcgate_check.proofs.key_places.writing.+write_keys.Given as goal
-
-abbrev pub decreases-write_keys : goal.decreases-write_keys
-decreases-write_keys g l = length l.keys.now
