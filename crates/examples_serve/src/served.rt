@@ -457,6 +457,13 @@ impl Askers {
     }
 }
 
+// A proxy that is served, and what operates it.
+#[derive(Drop)]
+struct Served<W: Wire> {
+    serving: Serving<W>,
+    operating: Operating,
+}
+
 /// The program's loop, and how it is told to run.
 #[derive(Drop)]
 pub struct ServeLoop<'a, W: Wire> {
@@ -465,7 +472,7 @@ pub struct ServeLoop<'a, W: Wire> {
     file: &'static str,
     // For how long a turn waits in which nothing comes, in milliseconds.
     reload_ms: u32,
-    serving: Option<(Serving<W>, Operating)>,
+    served: Option<Served<W>>,
     dialect: ServerDialect,
     new: New,
     history: Option<&'static str>,
@@ -488,7 +495,7 @@ fn serving_of<W: Wire + Drop>(
     servers: Servers,
     started: Started,
     askers: Askers,
-) -> Result<(Serving<W>, Operating), Fail> {
+) -> Result<Served<W>, Fail> {
     let lines = Lines::new(rt.alloc(), Some(LOG));
     let seen = Seen::new(rt.alloc());
     let Askers {
@@ -497,7 +504,7 @@ fn serving_of<W: Wire + Drop>(
     } = askers;
     let serving = Serving::new(end, servers, None, started);
     let operating = Operating::new(rt, &serving, lines, seen, watching, controlling)?;
-    Ok((serving, operating))
+    Ok(Served { serving, operating })
 }
 
 fn serve_text<W: Wire + Drop>(
@@ -506,7 +513,7 @@ fn serve_text<W: Wire + Drop>(
     job: &ServeJob<'_>,
     text: String,
     askers: Askers,
-) -> Result<(Serving<W>, Operating), Fail> {
+) -> Result<Served<W>, Fail> {
     let servers = servers_of(rt.alloc(), text.as_str())?;
     let started = started_of(rt, job, text)?;
     serving_of(rt, end, servers, started, askers)
@@ -518,32 +525,24 @@ fn begin_serving<W: Wire + Drop>(
     job: &ServeJob<'_>,
     text: String,
     askers: Askers,
-) -> Result<(Serving<W>, Operating), Fail> {
+) -> Result<Served<W>, Fail> {
     let end = begin_end(rt, wire, text.as_str(), job.begun, job.settings)?;
     serve_text(rt, end, job, text, askers)
 }
 
-// The exit status.
-fn status_of<W: Listens>(
-    rt: &HostRuntime,
-    serving: &mut Serving<W>,
-    operating: &mut Operating,
-    job: &ServeJob<'_>,
-) -> io::Result<u8> {
-    match serving.tell_and_run(rt, operating, job) {
-        Ok(status) => Ok(status),
-        Err(_) => Err(io::Error::other("it broke off")),
+impl<W: Listens> Served<W> {
+    // The exit status.
+    fn status(&mut self, rt: &HostRuntime, job: &ServeJob<'_>) -> io::Result<u8> {
+        match self.serving.tell_and_run(rt, &mut self.operating, job) {
+            Ok(status) => Ok(status),
+            Err(_) => Err(io::Error::other("it broke off")),
+        }
     }
-}
 
-fn run<W: Listens>(
-    rt: &HostRuntime,
-    serving: &mut Serving<W>,
-    operating: &mut Operating,
-    job: &ServeJob<'_>,
-) -> io::Result<()> {
-    status_of(rt, serving, operating, job)?;
-    Ok(())
+    fn run(&mut self, rt: &HostRuntime, job: &ServeJob<'_>) -> io::Result<()> {
+        self.status(rt, job)?;
+        Ok(())
+    }
 }
 
 impl<'a, W: Listens + Drop> ServeLoop<'a, W> {
@@ -554,7 +553,7 @@ impl<'a, W: Listens + Drop> ServeLoop<'a, W> {
             rt,
             file,
             reload_ms,
-            serving: None,
+            served: None,
             dialect: ServerDialect::Classic,
             new: New::Any,
             history: None,
@@ -599,7 +598,7 @@ impl<'a, W: Listens + Drop> ServeLoop<'a, W> {
     /// It begins by this text, on a wire on which its servers were looked up, and listens for these.
     pub fn begin(&mut self, wire: W, text: String, askers: Askers) -> Result<(), Fail> {
         let job = self.job(0);
-        self.serving = Some(begin_serving(self.rt, wire, &job, text, askers)?);
+        self.served = Some(begin_serving(self.rt, wire, &job, text, askers)?);
         Ok(())
     }
 
@@ -607,8 +606,8 @@ impl<'a, W: Listens + Drop> ServeLoop<'a, W> {
     pub fn serve(&mut self, turns: u32) -> io::Result<()> {
         let rt = self.rt;
         let job = self.job(turns);
-        match &mut self.serving {
-            Some((serving, operating)) => run(rt, serving, operating, &job),
+        match &mut self.served {
+            Some(served) => served.run(rt, &job),
             None => Ok(()),
         }
     }
@@ -617,16 +616,16 @@ impl<'a, W: Listens + Drop> ServeLoop<'a, W> {
     pub fn serve_to_end(&mut self, most: u32) -> Result<u8, Fail> {
         let rt = self.rt;
         let job = self.job(most);
-        match &mut self.serving {
-            Some((serving, operating)) => Ok(status_of(rt, serving, operating, &job)?),
+        match &mut self.served {
+            Some(served) => Ok(served.status(rt, &job)?),
             None => Err("nothing is served")?,
         }
     }
 
     /// Its wire, if it has begun.
     pub fn wire(&self) -> Option<&W> {
-        match &self.serving {
-            Some((serving, _)) => Some(&serving.end().sockets.wire),
+        match &self.served {
+            Some(served) => Some(&served.serving.end().sockets.wire),
             None => None,
         }
     }
