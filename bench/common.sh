@@ -53,16 +53,24 @@ fail() { printf '%s: %s\n' "${0##*/}" "$*" >&2; exit 3; }
 # Whether nutcracker (twemproxy) is there.
 has_nutcracker() { command -v nutcracker >/dev/null; }
 
-# Finds the programs, and makes the folder. The load generator is built without proofs where it isn't proved.
-begin() {
+# Finds the program: the one that was named, or the one of these sources.
+program=
+find_program() {
     command -v memcached >/dev/null || fail "memcached isn't installed"
-    if [ -n "$unproved" ]; then
+    if [ -n "$program" ]; then
+        mcgate=$program
+    elif [ -n "$unproved" ]; then
         mcgate=$("$top/mcgate" build --unproved) || exit 3
         printf '%s: mcgate is measured as it is built without proofs: %s\n' "${0##*/}" "$mcgate" >&2
     else
         mcgate=$("$top/mcgate" prove --done) ||
             fail "there is no proved mcgate of these sources: ./mcgate prove makes it, and with --unproved one without proofs is measured"
     fi
+}
+
+# Finds the programs, and makes the folder. The load generator is built without proofs where it isn't proved.
+begin() {
+    find_program
     mcload=$("$top/mcgate" build mcload) || exit 3
     folder=$(mktemp -d)
     trap clean_up EXIT

@@ -20,7 +20,7 @@ finish() {
 }
 
 # path_to ADDRESS: `path` is the address of a relay to that server. While it is held, what comes on
-# connections that stand waits, and new ones pass.
+# established connections waits, and new ones pass.
 path_to() {
     free_port
     python3 "$top/bench/relay" "$port" "${1##*:}" &
