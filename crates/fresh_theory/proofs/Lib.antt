@@ -19,3 +19,4 @@ pub mod InTurn
 pub mod Cores
 pub mod LateEmptied
 pub mod LateCores
+pub mod LateInTurn

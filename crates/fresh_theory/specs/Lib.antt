@@ -17,3 +17,4 @@ pub mod InTurn
 pub mod Cores
 pub mod LateGrown
 pub mod LateCores
+pub mod LateInTurn

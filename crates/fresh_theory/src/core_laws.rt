@@ -7,6 +7,7 @@ ghost use Rattle.fresh_theory.specs.Cores.{FleetOfCoresIsFresh, LateFleetOfCores
 ghost use Rattle.fresh_theory.specs.Grown.{GrownLogsAreFresh};
 ghost use Rattle.fresh_theory.specs.InTurn.{RunsInTurnAreFresh};
 ghost use Rattle.fresh_theory.specs.LateCores.{EveryLateRunFromEmptiedIsFresh};
+ghost use Rattle.fresh_theory.specs.LateInTurn.{LateRunsInTurnAreFresh};
 
 use core_accepted::ServedCore;
 use core_accepted::laws::accepted_trees_are_sound;
@@ -49,6 +50,14 @@ pub fn grown_logs_are_fresh()
 /// no item of a store that was over when the delete began.
 pub fn runs_in_turn_are_fresh()
     ensures { RunsInTurnAreFresh }
+{}
+
+/// Such runs are fresh together also where servers apply late what a run sent, after it ended too, in the order of its
+/// connection: if each run that knows that those before it ended with nothing in flight is right, and each other one asks
+/// a server for nothing before what earlier runs sent there was applied, or never is. By numbers, too, where each command
+/// has its key alone.
+pub fn late_runs_in_turn_are_fresh()
+    ensures { LateRunsInTurnAreFresh }
 {}
 
 /// One core on trees that the gate accepted is fresh so, too, where servers were emptied before they were first called: what they
