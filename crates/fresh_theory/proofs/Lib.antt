@@ -20,3 +20,6 @@ pub mod Cores
 pub mod LateEmptied
 pub mod LateCores
 pub mod LateInTurn
+pub mod Named
+pub mod Flushed
+pub mod FlushedLogs

@@ -18,3 +18,4 @@ pub mod Cores
 pub mod LateGrown
 pub mod LateCores
 pub mod LateInTurn
+pub mod Flushed

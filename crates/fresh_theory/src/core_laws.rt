@@ -7,6 +7,7 @@ ghost use Rattle.fresh_theory.specs.Cores.{FleetOfCoresIsFresh, LateFleetOfCores
 ghost use Rattle.fresh_theory.specs.Grown.{GrownLogsAreFresh};
 ghost use Rattle.fresh_theory.specs.InTurn.{RunsInTurnAreFresh};
 ghost use Rattle.fresh_theory.specs.LateCores.{EveryLateRunFromEmptiedIsFresh};
+ghost use Rattle.fresh_theory.specs.Flushed.{EveryRunFromFlushedIsFresh, EveryLogFromFlushedIsFresh};
 ghost use Rattle.fresh_theory.specs.LateInTurn.{LateRunsInTurnAreFresh};
 
 use core_accepted::ServedCore;
@@ -64,6 +65,15 @@ pub fn late_runs_in_turn_are_fresh()
 /// held doesn't count.
 pub fn emptied_late_core_is_fresh(core: &ServedCore)
     ensures { (known : Known) → core.now.accepted ≡ Some known → EveryLateRunFromEmptiedIsFresh known core.now }
+{
+    accepted_trees_are_sound(core);
+}
+
+/// So it is where servers were flushed before they applied a call, though calls to them had failed unsent before; and so is
+/// each log that may have led to it and in which nobody else writes the servers, by numbers too where each command has its
+/// key alone, with no stale reply.
+pub fn flushed_core_is_fresh(core: &ServedCore)
+    ensures { (known : Known) → core.now.accepted ≡ Some known → EveryRunFromFlushedIsFresh known core.now × EveryLogFromFlushedIsFresh known core.now }
 {
     accepted_trees_are_sound(core);
 }

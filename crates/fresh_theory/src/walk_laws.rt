@@ -1,0 +1,17 @@
+//! The laws of what a proxy's walk shows, beside those on which the program stands. Each is a function whose contract is the
+//! law.
+
+ghost use Rattle.fresh_theory.specs.Flushed.{FlushedWalksAreFreshLate, FlushedBeginSo};
+
+/// A core that is fresh over connections in order to servers that held nothing of what they were flushed of is so over
+/// those of the walk that led to it, where that is in order and no server applied a call before it was flushed: whatever
+/// these held before, and however late they apply what was sent to them.
+pub fn flushed_walks_are_fresh_late()
+    ensures { FlushedWalksAreFreshLate }
+{}
+
+/// What a clause says of servers that began as `--opened` and `--new-servers` say, as that of `serve_to_end` does of late
+/// calls, holds also of those that held something and were flushed before they applied a call, where all is in order.
+pub fn flushed_begin_so()
+    ensures { FlushedBeginSo }
+{}
