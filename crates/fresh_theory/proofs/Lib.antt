@@ -20,6 +20,7 @@ pub mod Cores
 pub mod LateEmptied
 pub mod LateCores
 pub mod LateInTurn
+pub mod Machines
 pub mod Named
 pub mod Flushed
 pub mod FlushedLogs

@@ -18,4 +18,5 @@ pub mod Cores
 pub mod LateGrown
 pub mod LateCores
 pub mod LateInTurn
+pub mod Machines
 pub mod Flushed

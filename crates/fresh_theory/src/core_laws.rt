@@ -9,6 +9,7 @@ ghost use Rattle.fresh_theory.specs.InTurn.{RunsInTurnAreFresh};
 ghost use Rattle.fresh_theory.specs.LateCores.{EveryLateRunFromEmptiedIsFresh};
 ghost use Rattle.fresh_theory.specs.Flushed.{EveryRunFromFlushedIsFresh, EveryLogFromFlushedIsFresh};
 ghost use Rattle.fresh_theory.specs.LateInTurn.{LateRunsInTurnAreFresh};
+ghost use Rattle.fresh_theory.specs.Machines.{EveryRunAtMachinesIsFresh};
 
 use core_accepted::ServedCore;
 use core_accepted::laws::accepted_trees_are_sound;
@@ -74,6 +75,15 @@ pub fn emptied_late_core_is_fresh(core: &ServedCore)
 /// key alone, with no stale reply.
 pub fn flushed_core_is_fresh(core: &ServedCore)
     ensures { (known : Known) → core.now.accepted ≡ Some known → EveryRunFromFlushedIsFresh known core.now × EveryLogFromFlushedIsFresh known core.now }
+{
+    accepted_trees_are_sound(core);
+}
+
+/// One core on trees that the gate accepted is fresh also where several of its servers are one machine, as an address that
+/// came back: if the machine is asked under one number at a time, and emptied under the next one once nothing that was sent
+/// under earlier ones may still be applied. What is told of a number, where a call of it is applied, is what the machine holds.
+pub fn core_at_machines_is_fresh(core: &ServedCore)
+    ensures { (known : Known) → core.now.accepted ≡ Some known → EveryRunAtMachinesIsFresh known core.now }
 {
     accepted_trees_are_sound(core);
 }
