@@ -21,6 +21,7 @@ pub mod LateEmptied
 pub mod LateCores
 pub mod LateInTurn
 pub mod Machines
+pub mod NumberWalks
 pub mod Named
 pub mod Flushed
 pub mod FlushedLogs

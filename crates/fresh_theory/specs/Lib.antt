@@ -19,4 +19,5 @@ pub mod LateGrown
 pub mod LateCores
 pub mod LateInTurn
 pub mod Machines
+pub mod NumberWalks
 pub mod Flushed

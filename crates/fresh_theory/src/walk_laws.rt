@@ -1,7 +1,21 @@
 //! The laws of what a proxy's walk shows, beside those on which the program stands. Each is a function whose contract is the
 //! law.
 
+ghost use Rattle.std.specs.Prelude.{◌≡◌, Some};
+ghost use Rattle.core_accepted.specs.Known.{Known};
+ghost use Rattle.fresh_theory.specs.NumberWalks.{EveryLateWalkIsFreshByNumber};
 ghost use Rattle.fresh_theory.specs.Flushed.{FlushedWalksAreFreshLate, FlushedBeginSo};
+
+use core_accepted::ServedCore;
+use core_accepted::laws::accepted_trees_are_sound;
+
+/// Where each command has its key alone, each walk in order that led to a core on trees that the gate accepted is fresh by
+/// numbers, too, however late servers apply what was sent over its connections.
+pub fn late_walks_are_fresh_by_number(core: &ServedCore)
+    ensures { (known : Known) → core.now.accepted ≡ Some known → EveryLateWalkIsFreshByNumber known core.now }
+{
+    accepted_trees_are_sound(core);
+}
 
 /// A core that is fresh over connections in order to servers that held nothing of what they were flushed of is so over
 /// those of the walk that led to it, where that is in order and no server applied a call before it was flushed: whatever
