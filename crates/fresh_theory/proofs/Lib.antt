@@ -22,6 +22,8 @@ pub mod LateCores
 pub mod LateInTurn
 pub mod Machines
 pub mod NumberWalks
+pub mod GivenLines
+pub mod Spelled
 pub mod Named
 pub mod Flushed
 pub mod FlushedLogs

@@ -20,4 +20,5 @@ pub mod LateCores
 pub mod LateInTurn
 pub mod Machines
 pub mod NumberWalks
+pub mod Spelled
 pub mod Flushed

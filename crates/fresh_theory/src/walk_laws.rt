@@ -4,6 +4,7 @@
 ghost use Rattle.std.specs.Prelude.{◌≡◌, Some};
 ghost use Rattle.core_accepted.specs.Known.{Known};
 ghost use Rattle.fresh_theory.specs.NumberWalks.{EveryLateWalkIsFreshByNumber};
+ghost use Rattle.fresh_theory.specs.Spelled.{SpelledTellAlways, InOrderHappensAlong};
 ghost use Rattle.fresh_theory.specs.Flushed.{FlushedWalksAreFreshLate, FlushedBeginSo};
 
 use core_accepted::ServedCore;
@@ -16,6 +17,17 @@ pub fn late_walks_are_fresh_by_number(core: &ServedCore)
 {
     accepted_trees_are_sound(core);
 }
+
+/// Where all happens in order, and the answers that come over connections are the servers', in the order in which each
+/// applied what came there, each call has by the log the answer that its server gave to just that call.
+pub fn spelled_tell_always()
+    ensures { SpelledTellAlways }
+{}
+
+/// So all that is proved of what happens along a walk holds where no more than that order is said of answers.
+pub fn in_order_happens_along()
+    ensures { InOrderHappensAlong }
+{}
 
 /// A core that is fresh over connections in order to servers that held nothing of what they were flushed of is so over
 /// those of the walk that led to it, where that is in order and no server applied a call before it was flushed: whatever
