@@ -22,14 +22,15 @@ use Rattle.core_accepted.proofs.Parts.{part_way, part_calls, tail, head_of}
 use Rattle.fresh_theory.proofs.Parts.{part_laws}
 use Rattle.core_accepted.proofs.Owns.{led_owns}
 
-module _ (words : ℕ → Ask → List Call → Answer → Option ℕ → Type 0) (Bars : ℕ → Ask → ℕ → Ask → Type 0) (run : ℕ → ℕ) (opening : ℕ → List ℕ → Option Item) where
+module _ (words : ℕ → Ask → List Call → Answer → Option ℕ → Type 0) (Bars : ℕ → Ask → ℕ → Ask → Type 0) (run : ℕ → ℕ) where
   -- each command of one run bars all of another one: none of them is under way with it
-  abbrev BarsAll : ℕ → Ask → ℕ → Ask → Type 0
+  abbrev pub BarsAll : ℕ → Ask → ℕ → Ask → Type 0
   BarsAll n ask m client = run n ≡ run m → Bars n ask m client
 
-  one_run : (events : List Event) → ((p : ℕ) → Own words Bars (part run p events)) → NumbersRise events → AreServed opening events → AreInTurn run events → Run words BarsAll opening events
-  one_run [] own rise serves turn = tt
-  one_run (Begins x ask ∷ past) own rise serves turn =
+  -- what runs do in turn is what one proxy does
+  pub one_own : (events : List Event) → ((p : ℕ) → Own words Bars (part run p events)) → NumbersRise events → AreInTurn run events → Own words BarsAll events
+  one_own [] own rise turn = tt
+  one_own (Begins x ask ∷ past) own rise turn =
       let may = head_of words Bars run (run x) (Begins x ask) (part run (run x) past) (own (run x)) in (
         (
           rise.0,
@@ -38,24 +39,34 @@ module _ (words : ℕ → Ask → List Call → Answer → Option ℕ → Type 0
               let free = may.1 m client (subst (λ q. under_way (part run q past) m ≡ Some client) home (part_way words Bars run past m ∙ e)) alike in
               ((λ b. free.0 (b (sym home))), (λ b. free.1 (b home))),
         ),
-        one_run past (λ q. tail words Bars run (Begins x ask) past q (own q)) rise.1 serves turn.1,
+        one_own past (λ q. tail words Bars run (Begins x ask) past q (own q)) rise.1 turn.1,
       )
-  one_run (Calls x s a o end ∷ past) own rise serves turn =
+  one_own (Calls x s a o end ∷ past) own rise turn =
       let may = head_of words Bars run (run x) (Calls x s a o end) (part run (run x) past) (own (run x)) in
       let call : Call = record { server = s; ask = a; origin = o; outcome = outcome_of end } in (
-        (may.0, sym (part_way words Bars run past x) ∙ may.1, may.2, subst (λ l. IsFront words x may.0 (l ++ call ∷ [])) (part_calls words Bars run past x) may.3, serves.0),
-        one_run past (λ q. tail words Bars run (Calls x s a o end) past q (own q)) rise serves.1 turn,
+        (may.0, sym (part_way words Bars run past x) ∙ may.1, may.2, subst (λ l. IsFront words x may.0 (l ++ call ∷ [])) (part_calls words Bars run past x) may.3),
+        one_own past (λ q. tail words Bars run (Calls x s a o end) past q (own q)) rise turn,
       )
-  one_run (Replies x key r f ∷ past) own rise serves turn =
+  one_own (Replies x key r f ∷ past) own rise turn =
       let may = head_of words Bars run (run x) (Replies x key r f) (part run (run x) past) (own (run x)) in (
         (may.0, sym (part_way words Bars run past x) ∙ may.1, may.2, subst (λ l. words x may.0 l r f) (part_calls words Bars run past x) may.3),
-        one_run past (λ q. tail words Bars run (Replies x key r f) past q (own q)) rise serves turn,
+        one_own past (λ q. tail words Bars run (Replies x key r f) past q (own q)) rise turn,
       )
-  one_run (Breaks x ∷ past) own rise serves turn =
+  one_own (Breaks x ∷ past) own rise turn =
       let may = head_of words Bars run (run x) (Breaks x) (part run (run x) past) (own (run x)) in
-      ((may.0, sym (part_way words Bars run past x) ∙ may.1), one_run past (λ q. tail words Bars run (Breaks x) past q (own q)) rise serves turn)
-  one_run (Turns s key turned ∷ past) own rise serves turn = (tt, one_run past own rise serves.1 turn)
-  one_run (Restarts s ∷ past) own rise serves turn = (tt, one_run past own rise serves turn)
+      ((may.0, sym (part_way words Bars run past x) ∙ may.1), one_own past (λ q. tail words Bars run (Breaks x) past q (own q)) rise turn)
+  one_own (Turns s key turned ∷ past) own rise turn = (tt, one_own past own rise turn)
+  one_own (Restarts s ∷ past) own rise turn = (tt, one_own past own rise turn)
+
+  -- before servers that answer by what they hold it is a run
+  one_run : (opening : ℕ → List ℕ → Option Item) (events : List Event) → Own words BarsAll events → AreServed opening events → Run words BarsAll opening events
+  one_run opening [] own serves = tt
+  one_run opening (Begins x ask ∷ past) own serves = (own.0, one_run opening past own.1 serves)
+  one_run opening (Calls x s a o end ∷ past) own serves = ((own.0.0, own.0.1, own.0.2, own.0.3, serves.0), one_run opening past own.1 serves.1)
+  one_run opening (Replies x key r f ∷ past) own serves = (own.0, one_run opening past own.1 serves)
+  one_run opening (Breaks x ∷ past) own serves = (own.0, one_run opening past own.1 serves)
+  one_run opening (Turns s key turned ∷ past) own serves = (tt, one_run opening past own.1 serves.1)
+  one_run opening (Restarts s ∷ past) own serves = (tt, one_run opening past own.1 serves)
 
 loses : (opening : ℕ → List ℕ → Option Item) (events : List Event) → AreServed opening events → LosesOnly events
 loses opening [] serves = tt
@@ -67,8 +78,13 @@ loses opening (Turns s key turned ∷ past) serves = (serves.0, loses opening pa
 loses opening (Restarts s ∷ past) serves = loses opening past serves
 
 -- by the rule of its run a command bars others
-abbrev bars_in : (served : ℕ → ServedCore) → (ℕ → ℕ) → (ℕ → Route) → ℕ → Ask → ℕ → Ask → Type 0
+abbrev pub bars_in : (served : ℕ → ServedCore) → (ℕ → ℕ) → (ℕ → Route) → ℕ → Ask → ℕ → Ask → Type 0
 bars_in served run tree n = bars_by (served (run n)).core.limits.sharing (λ m key. tree_at (tree m) key) n
+
+-- what copies bars deletes of its key
+pub copies_in : (served : ℕ → ServedCore) (run : ℕ → ℕ) (tree : ℕ → Route) → CopiesBar (words_by tree) (BarsAll (words_by tree) (bars_in served run tree) run)
+copies_in served run tree n ask calls reply from word j call i made copied m delete is same home =
+    keeping.copies (served (run n)).core.limits.sharing (λ k key. tree_at (tree k) key) n ask calls reply from word j call i made copied m delete is same
 
 pub runs_in_turn : RunsInTurnAreFresh
 runs_in_turn known are since served opening events h opens =
@@ -87,7 +103,5 @@ runs_in_turn known are since served opening events h opens =
     let plan : tree_at (h.tree (h.name p n)) ask.key ≡ led.beside.at n ask.key = ap (λ (t : Route). tree_at t ask.key) mine.1 ∙ sym (ap (λ (at : ℕ → List ℕ → Plan). at n ask.key) led.plain) in
     (subst (λ (x : Plan). copies_by rule ask.op x ≡ true) plan here.0, here.1))
     (h.runs_by p))) in
-    let run = one_run words Bars h.run opening events own h.rise h.serves h.in_turn in
-    let copies : CopiesBar words (BarsAll words Bars h.run opening) = λ n ask calls reply from word j call i made copied m delete is same home.
-    keeping.copies (served (h.run n)).core.limits.sharing (λ k key. tree_at (h.tree k) key) n ask calls reply from word j call i made copied m delete is same in
-    (grown_are_fresh (BarsAll words Bars h.run opening) (is_arbitrary known) (trees_of known.configs) are since h.tree h.loaded opening opens events (loses opening events h.serves) run).0 copies
+    let run = one_run words Bars h.run opening events (one_own words Bars h.run events own h.rise h.in_turn) h.serves in
+    (grown_are_fresh (BarsAll words Bars h.run) (is_arbitrary known) (trees_of known.configs) are since h.tree h.loaded opening opens events (loses opening events h.serves) run).0 (copies_in served h.run h.tree)

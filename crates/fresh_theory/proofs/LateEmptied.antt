@@ -43,7 +43,7 @@ module _ (emptied : ℕ → Bool) (opening : ℕ → List ℕ → Option Item) w
   called_emptied (Turns server key turned ∷ past) first n j call e is = called_emptied past first n j call e is
   called_emptied (Restarts server ∷ past) first n j call e is = inr (called_emptied past first n j call e is)
 
-  was_told : (past : List Moment) (s : ℕ) → WasEmptied (seen past) s → WasEmptied (told opening past) s
+  pub was_told : (past : List Moment) (s : ℕ) → WasEmptied (seen past) s → WasEmptied (told opening past) s
   was_told [] s was = was
   was_told (Does (Begins n ask) ∷ past) s was = was_told past s was
   was_told (Does (Calls n server ask origin end) ∷ past) s was = was_told past s was

@@ -19,3 +19,11 @@ pub mod InTurn
 pub mod Cores
 pub mod LateEmptied
 pub mod LateCores
+pub mod LateInTurn
+pub mod Machines
+pub mod NumberWalks
+pub mod GivenLines
+pub mod Spelled
+pub mod Named
+pub mod Flushed
+pub mod FlushedLogs

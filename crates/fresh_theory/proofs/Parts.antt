@@ -9,10 +9,10 @@ use Rattle.fresh_runs.specs.Run.{Event, Begins, Calls, Replies, Breaks, Turns, R
 use Rattle.fresh_runs.proofs.Runs.{no_ask, differs, differ, second}
 use Rattle.core_accepted.specs.Late.{Moment, Does, Lands, told, LateRun, LandsEver}
 use Rattle.core_accepted.specs.Parts.{Own, part}
-use Rattle.fresh_theory.specs.FleetLaws.{LandsHarmless}
+use Rattle.fresh_theory.specs.FleetLaws.{LandsBeginless}
 use Rattle.core_accepted.proofs.FleetsFresh.{nothing_bars, fleet_fresh}
 use Rattle.core_accepted.proofs.Parts as of_one
-use Rattle.fresh_theory.proofs.FleetsFresh.{patient_fresh}
+use Rattle.fresh_theory.proofs.FleetsFresh.{beginless_fresh}
 use Rattle.fresh_theory.specs.Parts.{renamed, FleetOfPartsIsFresh, NoStoreLands, PartsAreFresh, RunsAreParts, PartLaws}
 
 same : (p : ℕ) → nat_eq p p ≡ true
@@ -120,19 +120,19 @@ module _ (words : ℕ → Ask → List Call → Answer → Option ℕ → Type 0
   late_fresh : FleetOfPartsIsFresh words Bars
   late_fresh cover none proxy within line opening steps fleet = fleet_fresh words Bars cover none line opening steps ((of_one.part_laws words Bars).steps proxy within line opening steps fleet)
 
-  harmless : (opening : ℕ → List ℕ → Option Item) (moments : List Moment) → LateRun words Bars opening LandsEver moments → NoStoreLands moments → LateRun words Bars opening (LandsHarmless words Bars) moments
-  harmless opening [] run none = tt
-  harmless opening (Does (Begins x ask) ∷ past) run none = (run.0, harmless opening past run.1 none)
-  harmless opening (Does (Calls x s a o end) ∷ past) run none = (run.0, harmless opening past run.1 none)
-  harmless opening (Does (Replies x key r f) ∷ past) run none = (run.0, harmless opening past run.1 none)
-  harmless opening (Does (Breaks x) ∷ past) run none = (run.0, harmless opening past run.1 none)
-  harmless opening (Does (Turns s key turned) ∷ past) run none = (run.0, harmless opening past run.1 none)
-  harmless opening (Does (Restarts s) ∷ past) run none = (run.0, harmless opening past run.1 none)
-  harmless opening (Lands x s a o stamp answer spaces ∷ past) run none = ((run.0.0, none.0, run.0.2, run.0.3), harmless opening past run.1 none.1)
+  beginless : (opening : ℕ → List ℕ → Option Item) (moments : List Moment) → LateRun words Bars opening LandsEver moments → NoStoreLands moments → LateRun words Bars opening (LandsBeginless words Bars) moments
+  beginless opening [] run none = tt
+  beginless opening (Does (Begins x ask) ∷ past) run none = (run.0, beginless opening past run.1 none)
+  beginless opening (Does (Calls x s a o end) ∷ past) run none = (run.0, beginless opening past run.1 none)
+  beginless opening (Does (Replies x key r f) ∷ past) run none = (run.0, beginless opening past run.1 none)
+  beginless opening (Does (Breaks x) ∷ past) run none = (run.0, beginless opening past run.1 none)
+  beginless opening (Does (Turns s key turned) ∷ past) run none = (run.0, beginless opening past run.1 none)
+  beginless opening (Does (Restarts s) ∷ past) run none = (run.0, beginless opening past run.1 none)
+  beginless opening (Lands x s a o stamp answer spaces ∷ past) run none = ((run.0.0, none.0, run.0.2, run.0.3), beginless opening past run.1 none.1)
 
   parts_fresh : PartsAreFresh words Bars
   parts_fresh cover none proxy within opening moments parts lands =
-      patient_fresh words Bars cover (nothing_bars words Bars none) opening moments (harmless opening moments ((of_one.part_laws words Bars).run proxy within opening moments parts) lands)
+      beginless_fresh words Bars cover (nothing_bars words Bars none) opening moments (beginless opening moments ((of_one.part_laws words Bars).run proxy within opening moments parts) lands)
 
   runs_parts : RunsAreParts words Bars
   runs_parts proxy opening moments fleet =

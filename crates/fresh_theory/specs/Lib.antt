@@ -17,3 +17,8 @@ pub mod InTurn
 pub mod Cores
 pub mod LateGrown
 pub mod LateCores
+pub mod LateInTurn
+pub mod Machines
+pub mod NumberWalks
+pub mod Spelled
+pub mod Flushed

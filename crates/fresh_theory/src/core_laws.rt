@@ -7,6 +7,9 @@ ghost use Rattle.fresh_theory.specs.Cores.{FleetOfCoresIsFresh, LateFleetOfCores
 ghost use Rattle.fresh_theory.specs.Grown.{GrownLogsAreFresh};
 ghost use Rattle.fresh_theory.specs.InTurn.{RunsInTurnAreFresh};
 ghost use Rattle.fresh_theory.specs.LateCores.{EveryLateRunFromEmptiedIsFresh};
+ghost use Rattle.fresh_theory.specs.Flushed.{EveryRunFromFlushedIsFresh, EveryLogFromFlushedIsFresh};
+ghost use Rattle.fresh_theory.specs.LateInTurn.{LateRunsInTurnAreFresh};
+ghost use Rattle.fresh_theory.specs.Machines.{EveryRunAtMachinesIsFresh};
 
 use core_accepted::ServedCore;
 use core_accepted::laws::accepted_trees_are_sound;
@@ -51,10 +54,36 @@ pub fn runs_in_turn_are_fresh()
     ensures { RunsInTurnAreFresh }
 {}
 
+/// Such runs are fresh together also where servers apply late what a run sent, after it ended too, in the order of its
+/// connection: if each run that knows that those before it ended with nothing in flight is right, and each other one asks
+/// a server for nothing before what earlier runs sent there was applied, or never is. By numbers, too, where each command
+/// has its key alone.
+pub fn late_runs_in_turn_are_fresh()
+    ensures { LateRunsInTurnAreFresh }
+{}
+
 /// One core on trees that the gate accepted is fresh so, too, where servers were emptied before they were first called: what they
 /// held doesn't count.
 pub fn emptied_late_core_is_fresh(core: &ServedCore)
     ensures { (known : Known) → core.now.accepted ≡ Some known → EveryLateRunFromEmptiedIsFresh known core.now }
+{
+    accepted_trees_are_sound(core);
+}
+
+/// So it is where servers were flushed before they applied a call, though calls to them had failed unsent before; and so is
+/// each log that may have led to it and in which nobody else writes the servers, by numbers too where each command has its
+/// key alone, with no stale reply.
+pub fn flushed_core_is_fresh(core: &ServedCore)
+    ensures { (known : Known) → core.now.accepted ≡ Some known → EveryRunFromFlushedIsFresh known core.now × EveryLogFromFlushedIsFresh known core.now }
+{
+    accepted_trees_are_sound(core);
+}
+
+/// One core on trees that the gate accepted is fresh also where several of its servers are one machine, as an address that
+/// came back: if the machine is asked under one number at a time, and emptied under the next one once nothing that was sent
+/// under earlier ones may still be applied. What is told of a number, where a call of it is applied, is what the machine holds.
+pub fn core_at_machines_is_fresh(core: &ServedCore)
+    ensures { (known : Known) → core.now.accepted ≡ Some known → EveryRunAtMachinesIsFresh known core.now }
 {
     accepted_trees_are_sound(core);
 }

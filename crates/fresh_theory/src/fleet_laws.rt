@@ -13,7 +13,7 @@ ghost use Rattle.core_accepted.specs.LateLaws.{LateIsFresh};
 ghost use Rattle.core_accepted.specs.Owed.{OwedIsFresh};
 ghost use Rattle.core_accepted.specs.OwedPipes.{OwedPipesAreFresh};
 ghost use Rattle.core_accepted.specs.FleetLaws.{FleetIsFresh, SharedFleetIsFresh};
-ghost use Rattle.fresh_theory.specs.FleetLaws.{OneProxyIsFresh, StickyIsFresh, PatientIsFresh, SettledIsFresh};
+ghost use Rattle.fresh_theory.specs.FleetLaws.{OneProxyIsFresh, StickyIsFresh, BeginlessIsFresh, PatientIsFresh, SettledIsFresh};
 ghost use Rattle.fresh_theory.specs.Parts.{PartLaws};
 ghost use Rattle.fresh_theory.specs.Mirror.{FleetIsMirrored};
 
@@ -78,8 +78,15 @@ pub fn sticky_is_fresh<W: HasLate>()
     ensures { StickyIsFresh W.words W.bars }
 {}
 
-/// Where deletes clear what later commands take, what copies bars deletes of its key, and no proxy gives up a store
-/// that a server may still apply: every run is fresh, over any connections.
+/// Where deletes clear what later commands take, what copies bars deletes of its key, and no proxy gives up a set, add,
+/// replace or cas that a server may still apply: every run is fresh, over any connections.
+pub fn beginless_is_fresh<W: HasLate>()
+    ensures { BeginlessIsFresh W.words W.bars }
+{}
+
+/// Where deletes clear what later commands take, what copies bars deletes of its key, and no proxy gives up a call for
+/// which `--stores-wait` awaits the server (what stores, appends, prepends or counts) that it may still apply: every run
+/// is fresh, over any connections, and what is applied late changes no data.
 pub fn patient_is_fresh<W: HasLate>()
     ensures { PatientIsFresh W.words W.bars }
 {}

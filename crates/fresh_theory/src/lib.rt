@@ -9,3 +9,4 @@ pub mod late_growth_laws;
 pub mod overlap_laws;
 pub mod run_laws;
 pub mod stale_laws;
+pub mod walk_laws;

@@ -28,14 +28,16 @@ use Rattle.core_proxy.proofs.Commands.{goes_on}
 use Rattle.core_accepted.specs.declared.served.ServedCore.{ServedCore}
 use Rattle.core_accepted.specs.Logs.{MayHaveLed}
 use Rattle.core_accepted.specs.Late.{Moment, seen, begun_late, IsFreshBy, WasOver}
-use Rattle.core_accepted.specs.Parts.{Own}
+use Rattle.core_accepted.specs.Pipes.{moments_of}
+use Rattle.core_accepted.specs.Parts.{Own, PipesInOrder}
 use Rattle.core_accepted.specs.Rollout.{words_by}
-use Rattle.core_accepted.specs.LateCores.{DoesAsCore}
+use Rattle.core_accepted.specs.LateCores.{only_line, DoesAsCore}
 use Rattle.core_accepted.proofs.Late.{way_begun}
 use Rattle.core_accepted.proofs.Parts.{part_laws}
 use Rattle.core_accepted.proofs.LateCores.{own_part}
+use Rattle.serve_links.specs.Called.{TellsCallsOut}
 use Rattle.serve_links.specs.Talks.{IsOrderly}
-use Rattle.serve_links.specs.InOrder.{Move, OfProxy, OfServer, log_of, moments_in, as_pipes, CallIsAwaited, LeadAlong, WalksAreFreshLate}
+use Rattle.serve_links.specs.InOrder.{Move, OfProxy, OfServer, walk_of, log_of, moments_in, as_pipes, CallIsAwaited, LeadAlong, HappensAlong, WalksAreFreshLate}
 use Rattle.serve_links.proofs.InOrder.{none_some, is_calling, call_way, led_along, connections_are_in_order}
 use Rattle.serve_links.proofs.Alike.{OutWay, OutWays, does_own}
 
@@ -119,9 +121,12 @@ out_ways first last believes [] leads = out_way last believes [] leads.1
 out_ways first last believes (OfProxy step entries ∷ past) leads = (out_way last believes (entries ++ log_of past) leads.3, out_ways first leads.0 believes past leads.1)
 out_ways first last believes (OfServer place moment ∷ past) leads = out_ways first last believes past leads
 
-pub walks_are_fresh_late : WalksAreFreshLate
-walks_are_fresh_late steps first last tells orderly opening fresh moves same along =
-    let order = connections_are_in_order first last along.believes moves tells along.leads (subst IsOrderly (sym same) orderly) along.applied in
+-- what the core does by what happens along its walk, as over one connection to each server
+pub does_along :
+    (first last : ServedCore) → TellsCallsOut [] first → (opening : ℕ → List ℕ → Option Item) (moves : List Move) → IsOrderly (walk_of moves) → HappensAlong opening moves first last
+    → (moments_of (as_pipes moves) ≡ moments_in moves) × DoesAsCore last opening (moments_of (as_pipes moves)) × PipesInOrder only_line (as_pipes moves)
+does_along first last tells opening moves orderly along =
+    let order = connections_are_in_order first last along.believes moves tells along.leads orderly along.applied in
     let past = log_of moves in
     let led = led_along first along.believes tells moves last along.leads in
     let at : ℕ → List ℕ → Plan = λ n key. tree_at (led.tree n) key in
@@ -134,4 +139,9 @@ walks_are_fresh_late steps first last tells orderly opening fresh moves same alo
     does_own words Bars along.believes version moves follows ((part_laws words Bars).own along.believes (run_of past) (runs dialect words Bars along.believes version past follows)) along.applied along.alike
     (out_ways first last along.believes moves along.leads) (front_out last along.believes past led) in
     let core : DoesAsCore last opening (moments_in moves) = record { believes = along.believes; log = past; led = led; own = own_part words Bars (seen (moments_in moves)) own; serves = along.serves } in
-    subst (λ (l : List Moment). IsFreshBy opening WasOver l) order.0 (fresh (as_pipes moves) (subst (λ (l : List Moment). DoesAsCore last opening l) (sym order.0) core) order.1)
+    (order.0, subst (λ (l : List Moment). DoesAsCore last opening l) (sym order.0) core, order.1)
+
+pub walks_are_fresh_late : WalksAreFreshLate
+walks_are_fresh_late steps first last tells orderly opening fresh moves same along =
+    let does = does_along first last tells opening moves (subst IsOrderly (sym same) orderly) along in
+    subst (λ (l : List Moment). IsFreshBy opening WasOver l) does.0 (fresh (as_pipes moves) does.1 does.2)
