@@ -1,16 +1,14 @@
 //! One open stream with its number, and one address with its text. Each notes what it is itself, so that a call on another one than is
 //! meant can't show its contract.
 
-ghost use Rattle.std.specs.Prelude.{◌≡◌, ℕ, List, ◌∷◌, ◌<◌, ◌≤◌, ◌++◌, length, take};
+ghost use Rattle.std.specs.Prelude.{◌≡◌, ◌∷◌, ◌<◌, ◌≤◌, ◌++◌, length, take};
 ghost use Rattle.std.specs.Io.Slices.{io_slices_bytes};
 ghost use Rattle.serve_wire.specs.Events.{takes};
 ghost use Rattle.serve_wire.specs.Calls.{Adds, FitsOffer, ReadsBehind, Writes};
 
 use crate::{ReadOutcome, Record, WriteOutcome};
 use bytes::BytesMut;
-use libc::ENOMEM;
 use mio::net::TcpStream;
-use std::io;
 use std::io::{ErrorKind, IoSlice, Write};
 use std::net::SocketAddr;
 
@@ -68,28 +66,17 @@ fn read_some(mut stream: &TcpStream, into: &mut BytesMut) -> ReadOutcome
     }
 }
 
-// The errno of a write for which the system lacks room in its own memory.
-const ENOBUFS: i32 = 105;
-
-// What came of a write that gave this error. A system that lacks memory took nothing, and is asked
-// again in the next turn: that isn't the end of a connection, which may still lead to its server.
-fn unwritten(error: &io::Error) -> WriteOutcome
-    ensures { (bytes : List ℕ) → FitsOffer result bytes }
-{
-    match (error.kind(), error.raw_os_error()) {
-        (ErrorKind::WouldBlock, _) => WriteOutcome::NotReady,
-        (ErrorKind::Interrupted, _) | (_, Some(ENOBUFS | ENOMEM)) => WriteOutcome::Interrupted,
-        _ => WriteOutcome::Failed,
-    }
-}
-
 fn write_some(mut stream: &TcpStream, bytes: &[u8]) -> WriteOutcome
     ensures { FitsOffer result bytes.now }
 {
     match stream.write(bytes) {
         Ok(0) => WriteOutcome::Failed,
         Ok(count) => WriteOutcome::Bytes(count),
-        Err(error) => unwritten(&error),
+        Err(error) => match error.kind() {
+            ErrorKind::WouldBlock => WriteOutcome::NotReady,
+            ErrorKind::Interrupted => WriteOutcome::Interrupted,
+            _ => WriteOutcome::Failed,
+        },
     }
 }
 
@@ -99,7 +86,11 @@ fn write_some_parts(stream: &TcpStream, parts: &[IoSlice<'_>]) -> WriteOutcome
     match stream.write_vectored(parts) {
         Ok(0) => WriteOutcome::Failed,
         Ok(count) => WriteOutcome::Bytes(count),
-        Err(error) => unwritten(&error),
+        Err(error) => match error.kind() {
+            ErrorKind::WouldBlock => WriteOutcome::NotReady,
+            ErrorKind::Interrupted => WriteOutcome::Interrupted,
+            _ => WriteOutcome::Failed,
+        },
     }
 }
 

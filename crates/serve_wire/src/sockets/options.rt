@@ -9,9 +9,6 @@ use std::os::fd::RawFd;
 // The most seconds: those whose milliseconds the system takes.
 const MOST: u32 = 2_000_000;
 
-// The most seconds that the system takes between two questions.
-const MOST_IDLE: u32 = 32_767;
-
 // A number as the system takes it.
 fn value_of(number: u32) -> [u8; 16] {
     let mut value = [0u8; 16];
@@ -20,13 +17,12 @@ fn value_of(number: u32) -> [u8; 16] {
 }
 
 /// The connection fails once its far end has acknowledged nothing for so many seconds, one at least: neither what was sent nor, where nothing is
-/// sent, the system's asking, which begins after half that time, or after 32,767 seconds, if that is less. Where the system refuses that, it stands as long as the system lets it.
+/// sent, the system's asking, which begins after half that time. Where the system refuses that, it stands as long as the system lets it.
 ///
 /// Source: tcp(7), `TCP_USER_TIMEOUT` and `TCP_KEEPIDLE`.
 pub fn end_if_gone(socket: RawFd, seconds: u32) {
     let seconds = seconds.clamp(1, MOST);
-    let idle = (seconds / 2).clamp(1, MOST_IDLE);
-    let every = (seconds / 6).clamp(1, MOST_IDLE);
+    let (idle, every) = ((seconds / 2).max(1), (seconds / 6).max(1));
     let (on, idle, every) = (value_of(1), value_of(idle), value_of(every));
     let most = value_of(seconds * 1_000);
     let _ = unsafe { setsockopt(socket, SOL_SOCKET, SO_KEEPALIVE, &on, 4) };
